@@ -1,0 +1,12 @@
+pub mod PathIndependence
+pub mod UnionOfParts
+pub mod Places
+pub mod Stable
+pub mod Progress
+pub mod Runs
+pub mod ClosedRuns
+pub mod RuralHospitals
+pub mod TruthfulLists
+pub mod EveryChoice
+pub mod Rounds
+pub mod Tests
