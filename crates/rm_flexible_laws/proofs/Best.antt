@@ -8,7 +8,6 @@ use Rattle.std.proofs.lemmas.Map.Keys.{IsDistinct-tail, apart_from_distinct}
 use Rattle.rm_sets.specs.Sets.{has, IsIn, IsSet, IsSetBelow, with_one, without}
 use Rattle.rm_sets.proofs.Sets.{not_both, IsIn-later}
 use Rattle.rm_sets.proofs.Members.{with_one-without, not_in_without, not_in_from, IsSetBelow-without, IsSetBelow-with_one, IsSetBelow-smaller, place_from_IsIn}
-use Rattle.rm_valuation_laws.specs.Choice.{swapped}
 use Rattle.rm_valuation_laws.specs.Scores.{score, place, IsUnimproved}
 use Rattle.rm_valuation_laws.proofs.Moves.{without_other, apart, IsSetBelow-swapped}
 use Rattle.rm_valuation_laws.proofs.Counts.{one}
@@ -19,7 +18,7 @@ use Rattle.rm_valuation_laws.proofs.Decision.{held_over_swap}
 use Rattle.rm_valuation_laws.proofs.Best.{best_from_unimproved}
 use Rattle.rm_valuation_laws.proofs.Market.{market_board_laws}
 use Rattle.rm_market.specs.Board.{Board, IsBoard, contract_count, hospital_of, is_feasible, worth, stands_before}
-use Rattle.rm_market.specs.Best.{Values, is_better, IsBest, IsValuation, values_of}
+use Rattle.rm_market.specs.Best.{Values, is_better, IsBest, IsValuation, values_of, swapped}
 use Rattle.rm_market.specs.Flexible.{Region}
 use Rattle.rm_flexible_laws.specs.Region.{seat_at, region_at, IsRegions, IsPlace, count_at, is_of, IsPicked}
 use Rattle.rm_flexible_laws.specs.Compiled.{IsCompiled}
@@ -75,10 +74,10 @@ pub greater_better : (v : Values) (S T : List ℕ) → v.feasible T ≡ true →
 greater_better v S T h lt = better_from_higher v T S h (score_by_worth v T S lt)
 
 -- with x in the place of z
-pub passing-swapped : (p : ℕ → Bool) (S : List ℕ) (z x : ℕ) → IsSet S → IsIn z S → has x S ≡ false → length (filter p (swapped S z x)) + one (p z) ≡ length (filter p S) + one (p x)
+pub passing-swapped : (p : ℕ → Bool) (S : List ℕ) (z x : ℕ) → IsSet S → IsIn z S → has x S ≡ false → length (filter p (swapped S x z)) + one (p z) ≡ length (filter p S) + one (p x)
 passing-swapped p S z x s h out =
     let e = count-swapped p S z x s h out in
-    let a = length-filter p (swapped S z x) in
+    let a = length-filter p (swapped S x z) in
     let b = length-filter p S in
     omega arith
 
@@ -105,15 +104,14 @@ module _ (doctors : ℕ) (b : Board) (regions : List Region) (board : IsBoard do
       let w = worth_with b regions ok made (without S z) z i j (IsSetBelow-without (contract_count b) S z s) (s.below z iz) (not_in_without S z) p (ap (is_feasible b) whole ∙ h) in
       ap (worth b) (sym whole) ∙ (w ∙ ap (λ c. worth b (without S z) +ℤ value r j c) n)
 
-  pub worth_swap : (S : List ℕ) (z x i j : ℕ) → IsSetBelow (contract_count b) S → IsIn z S → x < contract_count b → has x S ≡ false → IsPlace regions (hospital_of b x) i j → is_feasible b (swapped S z x) ≡ true →
-      worth b (swapped S z x) ≡ worth b (without S z) +ℤ value (region_at regions i) j (count_at (hospital_of b) (seat_at (region_at regions i) j) (without S z) + 1)
-  unfolding swapped
+  pub worth_swap : (S : List ℕ) (z x i j : ℕ) → IsSetBelow (contract_count b) S → IsIn z S → x < contract_count b → has x S ≡ false → IsPlace regions (hospital_of b x) i j → is_feasible b (swapped S x z) ≡ true →
+      worth b (swapped S x z) ≡ worth b (without S z) +ℤ value (region_at regions i) j (count_at (hospital_of b) (seat_at (region_at regions i) j) (without S z) + 1)
   worth_swap S z x i j s iz lx out p h =
       worth_with b regions ok made (without S z) x i j (IsSetBelow-without (contract_count b) S z s) lx (without_other S z x (λ e. apart S z x iz out (sym e)) ∙ out) p h
 
   -- at one hospital a swap changes nothing but the tie order
   pub same_worth : (S : List ℕ) (z x i j : ℕ) → IsSetBelow (contract_count b) S → is_feasible b S ≡ true → IsIn z S → x < contract_count b → has x S ≡ false → hospital_of b z ≡ hospital_of b x →
-      IsPlace regions (hospital_of b x) i j → is_feasible b (swapped S z x) ≡ true → worth b (swapped S z x) ≡ worth b S
+      IsPlace regions (hospital_of b x) i j → is_feasible b (swapped S x z) ≡ true → worth b (swapped S x z) ≡ worth b S
   same_worth S z x i j s hS iz lx out e p h =
       let r = region_at regions i in
       let pz : IsPlace regions (hospital_of b z) i j = subst (λ q. IsPlace regions q i j) (sym e) p in
@@ -124,8 +122,8 @@ module _ (doctors : ℕ) (b : Board) (regions : List Region) (board : IsBoard do
 
   -- at two hospitals of a region the turns decide
   pub swap_worths : (S : List ℕ) (z x i j k : ℕ) → IsSetBelow (contract_count b) S → is_feasible b S ≡ true → IsIn z S → x < contract_count b → has x S ≡ false → (hospital_of b z ≡ hospital_of b x → ⊥) →
-      IsPlace regions (hospital_of b x) i j → IsPlace regions (hospital_of b z) i k → is_feasible b (swapped S z x) ≡ true →
-      (worth b (swapped S z x) +ℤ value (region_at regions i) k (count_at (hospital_of b) (seat_at (region_at regions i) k) S)) ≡ (worth b S +ℤ value (region_at regions i) j (count_at (hospital_of b) (seat_at (region_at regions i) j) S + 1))
+      IsPlace regions (hospital_of b x) i j → IsPlace regions (hospital_of b z) i k → is_feasible b (swapped S x z) ≡ true →
+      (worth b (swapped S x z) +ℤ value (region_at regions i) k (count_at (hospital_of b) (seat_at (region_at regions i) k) S)) ≡ (worth b S +ℤ value (region_at regions i) j (count_at (hospital_of b) (seat_at (region_at regions i) j) S + 1))
   swap_worths S z x i j k s hS iz lx out ne p q h =
       let r = region_at regions i in
       let c = passing-without (λ y. eqb (hospital_of b y) (seat_at r j).hospital) S z s.ascending iz in
@@ -133,7 +131,7 @@ module _ (doctors : ℕ) (b : Board) (regions : List Region) (board : IsBoard do
       let n : count_at (hospital_of b) (seat_at r j) (without S z) + 1 ≡ count_at (hospital_of b) (seat_at r j) S + 1 = omega arith in
       let a = worth_swap S z x i j s iz lx out p h ∙ ap (λ t. worth b (without S z) +ℤ value r j t) n in
       let w = worth_less S z i k s hS iz q in
-      sums (worth b (swapped S z x)) (worth b S) (worth b (without S z)) (value r j (count_at (hospital_of b) (seat_at r j) S + 1)) (value r k (count_at (hospital_of b) (seat_at r k) S)) a w
+      sums (worth b (swapped S x z)) (worth b S) (worth b (without S z)) (value r j (count_at (hospital_of b) (seat_at r j) S + 1)) (value r k (count_at (hospital_of b) (seat_at r k) S)) a w
     where
       sums : (A B C D E : ℤ) → A ≡ C +ℤ D → B ≡ C +ℤ E → (A +ℤ E) ≡ (B +ℤ D)
       sums A B C D E u v = omega (arith, ints)
@@ -167,7 +165,7 @@ module _ (doctors : ℕ) (b : Board) (regions : List Region) (board : IsBoard do
         (λ d. let full = d.full in omega arith)
         (p.passed x i j ix out pl).no_seat
 
-    no_swap : (x z : ℕ) → IsIn x X → has x S ≡ false → IsIn z S → is_feasible b (swapped S z x) ≡ true → score (values_of b) (swapped S z x) <ℤ score (values_of b) S
+    no_swap : (x z : ℕ) → IsIn x X → has x S ≡ false → IsIn z S → is_feasible b (swapped S x z) ≡ true → score (values_of b) (swapped S x z) <ℤ score (values_of b) S
     no_swap x z ix out iz h =
         let lx = sX.below x ix in
         let t = ok.all x lx in
@@ -176,7 +174,7 @@ module _ (doctors : ℕ) (b : Board) (regions : List Region) (board : IsBoard do
         let pl : IsPlace regions (hospital_of b x) i j = t.2 in
         let r = region_at regions i in
         let passed = p.passed x i j ix out pl in
-        let caps = caps_of_feasible b regions ok made (swapped S z x) (IsSetBelow-swapped (contract_count b) S z x below_S lx) h in
+        let caps = caps_of_feasible b regions ok made (swapped S x z) (IsSetBelow-swapped (contract_count b) S z x below_S lx) h in
         ⊎_elim
         (λ same. held_over_swap (values_of b) S z x iz out (inr (
           sym (same_worth S z x i j below_S picked_feasible iz lx out same pl h),
@@ -202,7 +200,7 @@ module _ (doctors : ℕ) (b : Board) (regions : List Region) (board : IsBoard do
         let lt = d.later k q.1.seat pos' in
         let w = swap_worths S z x i j k below_S picked_feasible iz lx out ne pl q.1 h in
         let less = value_less r k (count_at (hospital_of b) (seat_at r k) S) j (count_at (hospital_of b) (seat_at r j) S + 1) lt in
-        score_by_worth (values_of b) S (swapped S z x) (lower (worth b (swapped S z x)) (worth b S) (value r k (count_at (hospital_of b) (seat_at r k) S)) (value r j (count_at (hospital_of b) (seat_at r j) S + 1)) w less))
+        score_by_worth (values_of b) S (swapped S x z) (lower (worth b (swapped S x z)) (worth b S) (value r k (count_at (hospital_of b) (seat_at r k) S)) (value r j (count_at (hospital_of b) (seat_at r j) S + 1)) w less))
         passed.no_seat)
         (cases_eq (hospital_of b z) (hospital_of b x))
       where
@@ -225,9 +223,9 @@ module _ (doctors : ℕ) (b : Board) (regions : List Region) (board : IsBoard do
           let up = value_positive r t.1 (count_at (hospital_of b) (seat_at r t.1) S) pl.seat c in
           lower_not_better (values_of b) S (without S z) picked_feasible (score_by_worth (values_of b) S (without S z) (less (worth b (without S z)) (worth b S) (value r t.1 (count_at (hospital_of b) (seat_at r t.1) S)) w up));
       swap = λ x z ix out iz. ⊎_elim
-          (λ h. lower_not_better (values_of b) S (swapped S z x) picked_feasible (no_swap x z ix (not_in_from x S out) iz h))
-          (λ no. infeasible_not_better (values_of b) (swapped S z x) S no)
-          (cases_Bool (is_feasible b (swapped S z x)));
+          (λ h. lower_not_better (values_of b) S (swapped S x z) picked_feasible (no_swap x z ix (not_in_from x S out) iz h))
+          (λ no. infeasible_not_better (values_of b) (swapped S x z) S no)
+          (cases_Bool (is_feasible b (swapped S x z)));
     }
       where
         less : (A B C : ℤ) → B ≡ A +ℤ C → pos 0 <ℤ C → A <ℤ B

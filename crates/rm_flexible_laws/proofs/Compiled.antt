@@ -7,12 +7,12 @@ use Rattle.std.proofs.lemmas.List.FromFn.{get_or-map-range_with_len, length-map-
 use Rattle.rm_sets.specs.Sets.{has, IsIn, IsSetBelow, with_one}
 use Rattle.rm_sets.proofs.Sets.{IsIn-here, IsIn-later}
 use Rattle.rm_sets.proofs.Members.{IsSetBelow-with_one}
-use Rattle.rm_valuation_laws.specs.Changes.{in_node, node_at, test_at, on, next_step, gain, sum_upto}
+use Rattle.rm_valuation_laws.specs.Changes.{in_node, test_at, on, next_step, gain, sum_upto}
 use Rattle.rm_valuation_laws.proofs.Counts.{one, count-cons}
 use Rattle.rm_valuation_laws.proofs.Sums.{sum_by_place, sum_upto_same, sum_upto_one}
-use Rattle.rm_valuation_laws.proofs.LaminarExchange.{no_node, caps_from_feasible, feasible_from_caps}
+use Rattle.rm_valuation_laws.proofs.LaminarExchange.{caps_from_feasible, feasible_from_caps}
 use Rattle.rm_valuation_laws.proofs.Change.{worth_added}
-use Rattle.rm_market.specs.Board.{Board, Node, contract_count, hospital_of, count, is_feasible, worth}
+use Rattle.rm_market.specs.Board.{Board, Node, contract_count, hospital_of, count, is_feasible, worth, node_at, no_node}
 use Rattle.rm_market.specs.Flexible.{Region}
 use Rattle.rm_flexible_laws.specs.Region.{no_seat, seat_at, region_at, IsRegions, IsPlace, count_at, count_in, is_of, turn_of, IsInCaps}
 use Rattle.rm_flexible_laws.specs.Compiled.{seat_worth, greatest_capacity_of, full_worth, seat_steps, IsSeatNode, IsCapNode, IsCompiled}

@@ -6,13 +6,12 @@ use Rattle.std.proofs.lemmas.Bool.{cases_lt, cases_eq, cases_order, cases_Bool}
 use Rattle.rm_sets.specs.Sets.{has, IsIn, IsSetBelow, with_one}
 use Rattle.rm_sets.proofs.Sets.{not_both}
 use Rattle.rm_sets.proofs.Members.{IsSetBelow-with_one, IsSetBelow-smaller}
-use Rattle.rm_valuation_laws.specs.Choice.{swapped}
 use Rattle.rm_valuation_laws.proofs.Moves.{IsSetBelow-swapped}
 use Rattle.rm_valuation_laws.proofs.Counts.{one}
 use Rattle.rm_valuation_laws.proofs.Decision.{swap_better}
 use Rattle.rm_valuation_laws.proofs.GreedySteps.{unimproved_from_best}
 use Rattle.rm_market.specs.Board.{Board, IsBoard, contract_count, hospital_of, is_feasible, worth}
-use Rattle.rm_market.specs.Best.{is_better, IsBest, values_of}
+use Rattle.rm_market.specs.Best.{is_better, IsBest, values_of, swapped}
 use Rattle.rm_market.specs.Flexible.{Region}
 use Rattle.rm_flexible_laws.specs.Region.{no_seat, seat_at, region_at, IsRegions, IsPlace, count_at, count_in, is_of, turn_of, IsPassed, IsPicked}
 use Rattle.rm_flexible_laws.specs.Compiled.{IsCompiled}
@@ -37,10 +36,10 @@ module _ (doctors : ℕ) (b : Board) (regions : List Region) (board : IsBoard do
   module _ (S : List ℕ) (s : IsSetBelow (contract_count b) S) (hS : is_feasible b S ≡ true) (x : ℕ) (lx : x < contract_count b) (out : has x S ≡ false) (i j : ℕ) (p : IsPlace regions (hospital_of b x) i j) where
     swap_fits : (z : ℕ) → IsIn z S →
         (hospital_of b z ≡ hospital_of b x) ⊎ (count_at (hospital_of b) (seat_at (region_at regions i) j) S < (seat_at (region_at regions i) j).capacity) →
-        is_of (hospital_of b) (region_at regions i) z ≡ true → is_feasible b (swapped S z x) ≡ true
+        is_of (hospital_of b) (region_at regions i) z ≡ true → is_feasible b (swapped S x z) ≡ true
     swap_fits z iz how inside =
         let caps = caps_of_feasible b regions ok made S s hS in
-        feasible_of_caps b regions ok made (swapped S z x) (IsSetBelow-swapped (contract_count b) S z x s lx) (record {
+        feasible_of_caps b regions ok made (swapped S x z) (IsSetBelow-swapped (contract_count b) S z x s lx) (record {
           in_region = λ k lk.
               let e = passing-swapped (is_of (hospital_of b) (region_at regions k)) S z x s.ascending iz out in
               let le = caps.in_region k lk in
@@ -102,7 +101,7 @@ module _ (doctors : ℕ) (b : Board) (regions : List Region) (board : IsBoard do
         })
 
     -- no single change that takes x in makes S better
-    module _ (no_add : is_better (values_of b) (with_one S x) S ≡ false) (no_swap : (z : ℕ) → IsIn z S → is_better (values_of b) (swapped S z x) S ≡ false) where
+    module _ (no_add : is_better (values_of b) (with_one S x) S ≡ false) (no_swap : (z : ℕ) → IsIn z S → is_better (values_of b) (swapped S x z) S ≡ false) where
       all_above : (y : ℕ) → IsIn y S → hospital_of b y ≡ hospital_of b x → y < x
       all_above y iy e =
           ⊎_elim
@@ -114,7 +113,7 @@ module _ (doctors : ℕ) (b : Board) (regions : List Region) (board : IsBoard do
           let h = swap_fits y iy (inl e) inside in
           let w = same_worth doctors b regions board ok made S y x i j s hS iy lx out e p h in
           let t = before doctors b regions board ok made x y down (s.below y iy) (sym e) in
-          absurd (not_both (is_better (values_of b) (swapped S y x) S) (swap_better (values_of b) S y x iy out h (inr (w, t))) (no_swap y iy)))
+          absurd (not_both (is_better (values_of b) (swapped S x y) S) (swap_better (values_of b) S y x iy out h (inr (w, t))) (no_swap y iy)))
           other)
           (cases_order y x)
 
@@ -153,8 +152,8 @@ module _ (doctors : ℕ) (b : Board) (regions : List Region) (board : IsBoard do
           ⊎_elim
           (λ less.
           let v = value_less r j (count_at (hospital_of b) (seat_at r j) S + 1) k (count_at (hospital_of b) (seat_at r k) S) less in
-          absurd (not_both (is_better (values_of b) (swapped S z x) S)
-          (greater_better (values_of b) S (swapped S z x) h (more (worth b (swapped S z x)) (worth b S) (value r k (count_at (hospital_of b) (seat_at r k) S)) (value r j (count_at (hospital_of b) (seat_at r j) S + 1)) w v)) (no_swap z iz)))
+          absurd (not_both (is_better (values_of b) (swapped S x z) S)
+          (greater_better (values_of b) S (swapped S x z) h (more (worth b (swapped S x z)) (worth b S) (value r k (count_at (hospital_of b) (seat_at r k) S)) (value r j (count_at (hospital_of b) (seat_at r j) S + 1)) w v)) (no_swap z iz)))
           (λ le. le)
           (cases_lt (turn_of r j (count_at (hospital_of b) (seat_at r j) S + 1)) (turn_of r k (count_at (hospital_of b) (seat_at r k) S)))
         where

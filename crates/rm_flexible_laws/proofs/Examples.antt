@@ -2,10 +2,10 @@
 use Rattle.std.proofs.Common.{◌≡◌, ◌≢◌, ◌⊎◌, ℕ, zero, suc, ◌<◌, ◌≤◌, List, [], ◌∷◌, eqb, AllPairs, refl, subst, inl, inr, arith}
 use Rattle.std.specs.Prelude.{sum_by}
 use Rattle.std.proofs.lemmas.List.Elements.{All-cons, All-nil}
-use Rattle.rm_market.specs.Board.{Board, contract_count, hospital_of}
+use Rattle.rm_market.specs.Board.{Board, contract_count, hospital_of, node_at}
 use Rattle.rm_market.specs.Flexible.{Region}
 use Rattle.rm_market.proofs.Small.{targets, targets_region}
-use Rattle.rm_valuation_laws.specs.Changes.{in_node, node_at}
+use Rattle.rm_valuation_laws.specs.Changes.{in_node}
 use Rattle.rm_flexible_laws.specs.Region.{region_at, IsRegion, IsRegions, IsPlace, is_of}
 use Rattle.rm_flexible_laws.specs.Compiled.{IsSeatNode, IsCapNode, IsCompiled}
 

@@ -1,9 +1,9 @@
 -- The board of regions: a node for each hospital, with the worths of its seats, and nodes for the regions' caps.
 use Rattle.std.specs.Prelude.{◌≡◌, ◌⊎◌, ℕ, ◌+◌, ◌-◌, ◌*◌, ◌<◌, ◌==◌, nat_le, max, List, map, length, fold, replicate, sum_by, ℤ, pos, ◌-ℤ◌, if◌then◌else◌}
 use Rattle.std.specs.List.{range_with_len}
-use Rattle.rm_market.specs.Board.{Board, Node, contract_count, hospital_of}
+use Rattle.rm_market.specs.Board.{Board, Node, contract_count, hospital_of, node_at}
 use Rattle.rm_market.specs.Flexible.{Seat, Region}
-use Rattle.rm_valuation_laws.specs.Changes.{in_node, node_at}
+use Rattle.rm_valuation_laws.specs.Changes.{in_node}
 use Rattle.rm_flexible_laws.specs.Region.{seat_at, region_at, IsPlace, is_of}
 
 -- the worth of seat k of a hospital with target t at place p in the order of a region of m hospitals: full up to the target,

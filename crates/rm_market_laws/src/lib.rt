@@ -3,9 +3,8 @@
 
 ghost use Rattle.std.specs.Prelude.{ℕ, ◌≤◌, List};
 ghost use Rattle.rm_sets.specs.Sets.{IsSetBelow, IsWithin};
-ghost use Rattle.rm_market.specs.Board.{Board, IsBoard, contract_count, cap_of};
+ghost use Rattle.rm_market.specs.Board.{Board, IsBoard, contract_count, cap_of, node_at};
 ghost use Rattle.rm_market.specs.Best.{IsBest, IsChoice, values_of, best_of};
-ghost use Rattle.rm_market.specs.Certificate.{node_at};
 ghost use Rattle.rm_market.specs.Market.{Market, IsMarket, wishes_of, IsPlacementOf, IsList, replaced, solve};
 ghost use Rattle.rm_market.specs.Laws.{AreWishes};
 ghost use Rattle.rm_matching_laws.specs.Results.{RunsClose};

@@ -5,8 +5,8 @@ use Rattle.std.proofs.lemmas.Bool.{cases_Bool}
 use Rattle.rm_sets.specs.Sets.{has, IsSet, IsSetBelow, IsWithin, with_one, without}
 use Rattle.rm_sets.proofs.Sets.{not_both}
 use Rattle.rm_sets.proofs.Members.{IsSetBelow-smaller}
-use Rattle.rm_valuation_laws.specs.Choice.{swapped, IsFeasible, IsTop, IsStuck, greedy}
-use Rattle.rm_market.specs.Best.{IsChoice, Values, is_better, IsBest, IsValuation}
+use Rattle.rm_valuation_laws.specs.Choice.{IsFeasible, IsTop, IsStuck, greedy}
+use Rattle.rm_market.specs.Best.{IsChoice, Values, is_better, IsBest, IsValuation, swapped}
 use Rattle.rm_valuation_laws.specs.Scores.{score, IsUnimproved}
 use Rattle.rm_valuation_laws.proofs.SingleChanges.{upper_from_stuck}
 use Rattle.rm_valuation_laws.proofs.ChoiceLaws.{top_from_upper, top_unique, choice_from_tops}
@@ -59,7 +59,7 @@ best_from_unimproved n v X S laws sX u =
       within = u.within;
       add = λ x inX out h. not_higher v S (with_one S x) h (u.add x inX (λ h2. not_both (has x S) h2 out));
       remove = λ z inS h. not_higher v S (without S z) h (u.remove z inS);
-      swap = λ x z inX out inS h. not_higher v S (swapped S z x) h (u.swap x z inX (λ h2. not_both (has x S) h2 out) inS);
+      swap = λ x z inX out inS h. not_higher v S (swapped S x z) h (u.swap x z inX (λ h2. not_both (has x S) h2 out) inS);
     } in
     best_from_top n v X S
     (top_from_upper n v.feasible (score v) X S (scores_differ n v laws.ties_all) fS u.within

@@ -5,15 +5,15 @@ use Rattle.std.proofs.lemmas.Bool.{cases_Bool, cases_lt}
 use Rattle.std.proofs.lemmas.List.Elements.{All-head, All-tail, All-from_get_or}
 use Rattle.rm_sets.specs.Sets.{has, IsIn, IsSet, with_one, without}
 use Rattle.rm_sets.proofs.Sets.{not_both}
-use Rattle.rm_valuation_laws.specs.Choice.{swapped}
-use Rattle.rm_market.specs.Board.{Node, Board, count, is_feasible, int_sum, total, worth}
-use Rattle.rm_valuation_laws.specs.Changes.{IsChain, in_node, on, next_step, last_step, gain, loss, swap_gain, swap_loss, node_at, test_at}
+use Rattle.rm_market.specs.Best.{swapped}
+use Rattle.rm_market.specs.Board.{Node, Board, count, is_feasible, int_sum, total, worth, node_at, no_node}
+use Rattle.rm_valuation_laws.specs.Changes.{IsChain, in_node, on, next_step, last_step, gain, loss, swap_gain, swap_loss, test_at}
 use Rattle.rm_valuation_laws.specs.Offers.{IsFull}
 use Rattle.rm_valuation_laws.proofs.Moves.{without_other, apart}
 use Rattle.rm_valuation_laws.proofs.Counts.{one, count-with_one, count-without}
 use Rattle.rm_valuation_laws.proofs.Sums.{sum_by_members}
 use Rattle.rm_valuation_laws.proofs.Steps.{total_more}
-use Rattle.rm_valuation_laws.proofs.LaminarExchange.{no_node, caps_from_feasible, feasible_from_caps}
+use Rattle.rm_valuation_laws.proofs.LaminarExchange.{caps_from_feasible, feasible_from_caps}
 
 -- ---- sums over the nodes
 
@@ -70,8 +70,7 @@ worth_removed b S z s h f =
 
 -- ---- swaps
 
-pub count-swapped : (p : ℕ → Bool) (H : List ℕ) (z x : ℕ) → IsSet H → IsIn z H → has x H ≡ false → count_by p (swapped H z x) + one (p z) ≡ count_by p H + one (p x)
-unfolding swapped
+pub count-swapped : (p : ℕ → Bool) (H : List ℕ) (z x : ℕ) → IsSet H → IsIn z H → has x H ≡ false → count_by p (swapped H x z) + one (p z) ≡ count_by p H + one (p x)
 count-swapped p H z x s h out =
     let ne : z ≡ x → ⊥ = apart H z x h out in
     let e1 = count-without p H z s h in
@@ -92,17 +91,17 @@ swap_steps steps c d true false e lc ld =
     omega (arith, ints)
 
 -- the worth with x in the place of z
-pub worth_swapped : (b : Board) (H : List ℕ) (z x : ℕ) → IsSet H → IsIn z H → has x H ≡ false → is_feasible b H ≡ true → is_feasible b (swapped H z x) ≡ true →
-    (worth b (swapped H z x) +ℤ swap_loss b H x z) ≡ (worth b H +ℤ swap_gain b H x z)
+pub worth_swapped : (b : Board) (H : List ℕ) (z x : ℕ) → IsSet H → IsIn z H → has x H ≡ false → is_feasible b H ≡ true → is_feasible b (swapped H x z) ≡ true →
+    (worth b (swapped H x z) +ℤ swap_loss b H x z) ≡ (worth b H +ℤ swap_gain b H x z)
 unfolding worth
 worth_swapped b H z x s h out fH fS =
     let capsH = caps_from_feasible b H fH in
-    let capsS = caps_from_feasible b (swapped H z x) fS in
-    int_sum-same (λ n. total n.steps (count b n.leaves (swapped H z x))) (λ n. on (in_node b n z && not (in_node b n x)) (last_step b H n))
+    let capsS = caps_from_feasible b (swapped H x z) fS in
+    int_sum-same (λ n. total n.steps (count b n.leaves (swapped H x z))) (λ n. on (in_node b n z && not (in_node b n x)) (last_step b H n))
     (λ n. total n.steps (count b n.leaves H)) (λ n. on (in_node b n x && not (in_node b n z)) (next_step b H n)) b.nodes
     (λ k d lt.
     let n = get_or b.nodes k d in
-    swap_steps n.steps (count b n.leaves H) (count b n.leaves (swapped H z x)) (in_node b n z) (in_node b n x) (count-swapped (in_node b n) H z x s h out) (capsH k d lt) (capsS k d lt))
+    swap_steps n.steps (count b n.leaves H) (count b n.leaves (swapped H x z)) (in_node b n z) (in_node b n x) (count-swapped (in_node b n) H z x s h out) (capsH k d lt) (capsS k d lt))
 
 -- ---- where the changes are feasible
 
@@ -131,14 +130,14 @@ added_infeasible b H x k out lt t full =
 
 -- each node of x that is full has z too
 pub swap_feasible : (b : Board) (H : List ℕ) (z x : ℕ) → IsSet H → IsIn z H → has x H ≡ false → is_feasible b H ≡ true →
-    ((k : ℕ) → k < length b.nodes → test_at b k x ≡ true → IsFull b H (node_at b k) → test_at b k z ≡ true) → is_feasible b (swapped H z x) ≡ true
+    ((k : ℕ) → k < length b.nodes → test_at b k x ≡ true → IsFull b H (node_at b k) → test_at b k z ≡ true) → is_feasible b (swapped H x z) ≡ true
 swap_feasible b H z x s h out fH shared =
     let caps = caps_from_feasible b H fH in
-    feasible_from_caps b (swapped H z x) (All-from_get_or (λ n. count b n.leaves (swapped H z x) ≤ length n.steps) b.nodes no_node (λ k lt.
+    feasible_from_caps b (swapped H x z) (All-from_get_or (λ n. count b n.leaves (swapped H x z) ≤ length n.steps) b.nodes no_node (λ k lt.
     at k lt (test_at b k z) (test_at b k x) refl refl (count-swapped (test_at b k) H z x s h out) (caps k no_node lt)))
   where
-    at : (k : ℕ) → k < length b.nodes → (iz ix : Bool) → test_at b k z ≡ iz → test_at b k x ≡ ix → count_by (test_at b k) (swapped H z x) + one iz ≡ count_by (test_at b k) H + one ix →
-        count_by (test_at b k) H ≤ length (node_at b k).steps → count_by (test_at b k) (swapped H z x) ≤ length (node_at b k).steps
+    at : (k : ℕ) → k < length b.nodes → (iz ix : Bool) → test_at b k z ≡ iz → test_at b k x ≡ ix → count_by (test_at b k) (swapped H x z) + one iz ≡ count_by (test_at b k) H + one ix →
+        count_by (test_at b k) H ≤ length (node_at b k).steps → count_by (test_at b k) (swapped H x z) ≤ length (node_at b k).steps
     at k lt true true tz tx e cap = omega arith
     at k lt true false tz tx e cap = omega arith
     at k lt false false tz tx e cap = omega arith
@@ -149,16 +148,16 @@ swap_feasible b H z x s h out fH shared =
         (cases_lt (count_by (test_at b k) H) (length (node_at b k).steps))
 
 -- some full node of x lacks z
-pub swap_infeasible : (b : Board) (H : List ℕ) (z x k : ℕ) → IsSet H → IsIn z H → has x H ≡ false → k < length b.nodes → test_at b k x ≡ true → test_at b k z ≡ false → IsFull b H (node_at b k) → is_feasible b (swapped H z x) ≡ false
+pub swap_infeasible : (b : Board) (H : List ℕ) (z x k : ℕ) → IsSet H → IsIn z H → has x H ≡ false → k < length b.nodes → test_at b k x ≡ true → test_at b k z ≡ false → IsFull b H (node_at b k) → is_feasible b (swapped H x z) ≡ false
 swap_infeasible b H z x k s h out lt tx tz full =
     ⊎_elim
-    (λ f. absurd (let cap = caps_from_feasible b (swapped H z x) f k no_node lt in
+    (λ f. absurd (let cap = caps_from_feasible b (swapped H x z) f k no_node lt in
     let e = count-swapped (test_at b k) H z x s h out in
     let e1 : one (test_at b k x) ≡ 1 = ap one tx in
     let e0 : one (test_at b k z) ≡ 0 = ap one tz in
     omega arith))
     (λ f. f)
-    (cases_Bool (is_feasible b (swapped H z x)))
+    (cases_Bool (is_feasible b (swapped H x z)))
 
 -- ---- along a chain
 

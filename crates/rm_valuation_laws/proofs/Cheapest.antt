@@ -5,16 +5,14 @@ use Rattle.std.proofs.lemmas.Bool.{cases_eq, cases_Bool}
 use Rattle.std.proofs.lemmas.List.Sums.{length-filter}
 use Rattle.rm_sets.specs.Sets.{has, IsIn, IsSet}
 use Rattle.rm_sets.proofs.Sets.{not_both, same_sets, IsSet-filter, has-filter}
-use Rattle.rm_valuation_laws.specs.Choice.{swapped}
-use Rattle.rm_market.specs.Best.{Values, is_better, values_of}
-use Rattle.rm_market.specs.Board.{Board, is_feasible}
+use Rattle.rm_market.specs.Best.{Values, is_better, values_of, swapped}
+use Rattle.rm_market.specs.Board.{Board, is_feasible, node_at, no_node}
 use Rattle.rm_valuation_laws.specs.Scores.{place}
-use Rattle.rm_valuation_laws.specs.Changes.{in_node, on, last_step, swap_loss, node_at, test_at, loss_upto, IsCheaper, less, tied, IsCheapest, IsJustAbove}
+use Rattle.rm_valuation_laws.specs.Changes.{in_node, on, last_step, swap_loss, test_at, loss_upto, IsCheaper, less, tied, IsCheapest, IsJustAbove}
 use Rattle.rm_valuation_laws.specs.Offers.{IsInside, AtOneStep}
 use Rattle.rm_valuation_laws.proofs.Sums.{sum_upto_same, sum_upto_zero, sum_upto_add, sum_upto_one, sum_by_place, on_or}
 use Rattle.rm_valuation_laws.proofs.Score.{better_from_higher, higher_from_better, infeasible_not_better}
 use Rattle.rm_valuation_laws.proofs.Leads.{place_same}
-use Rattle.rm_valuation_laws.proofs.LaminarExchange.{no_node}
 use Rattle.rm_valuation_laws.proofs.Change.{swap_feasible, swap_infeasible}
 use Rattle.rm_valuation_laws.proofs.Walk.{better_swap}
 
@@ -171,20 +169,20 @@ cheapest_agree b under H K a z sH sK agree inner c = record {
 -- z and y lie at one step of the walk, z is to be displaced before y, and the swap for z is no better than D: nor is that for y
 pub step_decides : (b : Board) (H : List ℕ) (x z y : ℕ) (D : List ℕ) → IsSet H → IsIn z H → IsIn y H → has x H ≡ false → IsIn z b.ties → is_feasible b H ≡ true → is_feasible b D ≡ true → AtOneStep b x z y →
     (swap_loss b H x z <ℤ swap_loss b H x y) ⊎ ((swap_loss b H x z ≡ swap_loss b H x y) × (place b.ties y ≤ place b.ties z)) →
-    is_better (values_of b) (swapped H z x) D ≡ false → is_better (values_of b) (swapped H y x) D ≡ false
+    is_better (values_of b) (swapped H x z) D ≡ false → is_better (values_of b) (swapped H x y) D ≡ false
 step_decides b H x z y D s inz iny out inTies fH fD one_step how not_better =
     ⊎_elim
-    (λ same. subst (λ w. is_better (values_of b) (swapped H w x) D ≡ false) same not_better)
+    (λ same. subst (λ w. is_better (values_of b) (swapped H x w) D ≡ false) same not_better)
     (λ ne. ⊎_elim
     (λ fy.
-    let fz : is_feasible b (swapped H z x) ≡ true = swap_feasible b H z x s inz out fH (λ k lk tx full.
-    one_step k lk tx ∙ ⊎_elim (λ t. t) (λ f. absurd (not_both (is_feasible b (swapped H y x)) fy (swap_infeasible b H y x k s iny out lk tx f full))) (cases_Bool (test_at b k y))) in
+    let fz : is_feasible b (swapped H x z) ≡ true = swap_feasible b H z x s inz out fH (λ k lk tx full.
+    one_step k lk tx ∙ ⊎_elim (λ t. t) (λ f. absurd (not_both (is_feasible b (swapped H x y)) fy (swap_infeasible b H y x k s iny out lk tx f full))) (cases_Bool (test_at b k y))) in
     let strictly : (swap_loss b H x z <ℤ swap_loss b H x y) ⊎ ((swap_loss b H x z ≡ swap_loss b H x y) × (place b.ties y < place b.ties z)) =
     ⊎_elim (λ l. inl l) (λ t. inr (t.0, (let le = t.1 in let differ : place b.ties z ≡ place b.ties y → ⊥ = λ e. ne (place_same b.ties z y inTies e) in omega arith))) how in
     let better = better_swap b H x z y s inz iny out fH fz fy one_step strictly in
-    not_better_after (values_of b) (swapped H z x) (swapped H y x) D fz fy fD better not_better)
-    (λ fy. infeasible_not_better (values_of b) (swapped H y x) D fy)
-    (cases_Bool (is_feasible b (swapped H y x))))
+    not_better_after (values_of b) (swapped H x z) (swapped H x y) D fz fy fD better not_better)
+    (λ fy. infeasible_not_better (values_of b) (swapped H x y) D fy)
+    (cases_Bool (is_feasible b (swapped H x y))))
     (cases_eq z y)
   where
     not_better_after : (v : Values) (A B D : List ℕ) → v.feasible A ≡ true → v.feasible B ≡ true → v.feasible D ≡ true → is_better v A B ≡ true → is_better v A D ≡ false → is_better v B D ≡ false

@@ -6,8 +6,8 @@ use Rattle.rm_sets.specs.Sets.{has, IsIn, IsSetBelow, IsWithin, with_one, withou
 use Rattle.rm_sets.proofs.Sets.{cases_has, not_both}
 use Rattle.rm_sets.proofs.Search.{cases_same}
 use Rattle.rm_sets.proofs.Members.{IsIn-with_one_new, not_in_without, IsSetBelow-with_one, IsSetBelow-without, with_one_within, within_trans}
-use Rattle.rm_market.specs.Best.{IsChoice}
-use Rattle.rm_valuation_laws.specs.Choice.{swapped, IsFeasible, IsGoodMove, HasExchange, HasSizeExchange, IsStrict, IsTop, IsUpper}
+use Rattle.rm_market.specs.Best.{IsChoice, swapped}
+use Rattle.rm_valuation_laws.specs.Choice.{IsFeasible, IsGoodMove, HasExchange, HasSizeExchange, IsStrict, IsTop, IsUpper}
 use Rattle.rm_valuation_laws.proofs.Moves.{swapped_new, swapped_old, apart, IsSetBelow-swapped, swapped_within, smaller_within}
 
 -- sets that differ at x are two
@@ -69,10 +69,10 @@ tops_substitutes n feasible score X Y A B exchange tA tB w x inX inB =
     (λ s.
     let j = s.0 in
     let ne : x ≡ j → ⊥ = apart B x j inB s.2 in
-    no_move n feasible score X Y A B (swapped A j x) (swapped B x j) tA tB s.3
+    no_move n feasible score X Y A B (swapped A x j) (swapped B j x) tA tB s.3
     (IsSetBelow-swapped n A j x tA.is_feasible.is_set lt) (IsSetBelow-swapped n B x j tB.is_feasible.is_set (tA.is_feasible.is_set.below j s.1))
     (swapped_within A X j x tA.within inX) (swapped_within B Y x j tB.within (w j (tA.within j s.1)))
-    (unequal (swapped A j x) A x (swapped_new A j x) out) (λ e. unequal B (swapped B x j) x inB (swapped_old B x j ne) (sym e)))
+    (unequal (swapped A x j) A x (swapped_new A j x) out) (λ e. unequal B (swapped B j x) x inB (swapped_old B x j ne) (sym e)))
     (exchange B A x tB.is_feasible tA.is_feasible inB out)))
     (cases_has x A)
 

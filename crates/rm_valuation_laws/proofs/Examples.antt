@@ -1,8 +1,8 @@
 -- Small boards, by computation: the definitions mean what they should.
 use Rattle.std.proofs.Common.{◌≡◌, ℕ, List, [], ◌∷◌, true, pos, negsuc, refl}
 use Rattle.rm_sets.specs.Sets.{without}
-use Rattle.rm_valuation_laws.specs.Choice.{swapped, greedy}
-use Rattle.rm_market.specs.Best.{is_better, values_of}
+use Rattle.rm_valuation_laws.specs.Choice.{greedy}
+use Rattle.rm_market.specs.Best.{is_better, values_of, swapped}
 use Rattle.rm_market.specs.Board.{Board, worth, is_feasible}
 use Rattle.rm_valuation_laws.specs.Scores.{score}
 use Rattle.rm_valuation_laws.specs.Changes.{gain, loss, swap_gain, swap_loss}
@@ -86,8 +86,8 @@ with_offer : worth swap_beats_addition (0 ∷ 1 ∷ []) ≡ pos 4
 unfolding worth
 with_offer = refl
 
-in_its_place : worth swap_beats_addition (swapped (0 ∷ []) 0 1) ≡ pos 5
-unfolding swapped without worth
+in_its_place : worth swap_beats_addition (swapped (0 ∷ []) 1 0) ≡ pos 5
+unfolding without worth
 in_its_place = refl
 
 swap_wins : best swap_beats_addition (0 ∷ 1 ∷ []) ≡ 1 ∷ []

@@ -6,8 +6,8 @@ use Rattle.rm_sets.specs.Sets.{has, IsIn, IsSet, IsSetBelow, IsWithin, with_one,
 use Rattle.rm_sets.proofs.Sets.{not_both, IsSet-with_one, IsSet-without}
 use Rattle.rm_sets.proofs.Search.{cases_same}
 use Rattle.rm_sets.proofs.Members.{not_in_from, with_one_within}
-use Rattle.rm_valuation_laws.specs.Choice.{swapped, HasNoGain}
-use Rattle.rm_market.specs.Best.{Values, is_better, IsBest, IsValuation}
+use Rattle.rm_valuation_laws.specs.Choice.{HasNoGain}
+use Rattle.rm_market.specs.Best.{Values, is_better, IsBest, IsValuation, swapped}
 use Rattle.rm_valuation_laws.specs.Scores.{score, IsUnimproved, IsWorthiest, IsBestSoFar}
 use Rattle.rm_valuation_laws.proofs.Moves.{swapped_within, smaller_within}
 use Rattle.rm_valuation_laws.proofs.ChoiceLaws.{top_from_upper}
@@ -72,7 +72,7 @@ unimproved_from_best v X S b = record {
   feasible = b.feasible;
   add = λ x inX out. none_beats_best v X S (with_one S x) b (IsSet-with_one S x b.set) (with_one_within S X x b.within inX);
   remove = λ z inS. none_beats_best v X S (without S z) b (IsSet-without S z b.set) (smaller_within S X z b.within);
-  swap = λ x z inX out inS. none_beats_best v X S (swapped S z x) b (IsSet-swapped S z x b.set) (swapped_within S X z x b.within inX);
+  swap = λ x z inX out inS. none_beats_best v X S (swapped S x z) b (IsSet-swapped S z x b.set) (swapped_within S X z x b.within inX);
 }
 
 -- a set is the best subset exactly where no single change makes it better

@@ -9,8 +9,8 @@ use Rattle.rm_sets.specs.Sets.{has, IsIn, IsSet, with_one, without, common, minu
 use Rattle.rm_sets.proofs.Sets.{not_both, cases_has, IsSet-without}
 use Rattle.rm_sets.proofs.Members.{IsIn-common, IsIn-minus, not_in_nil, not_in_from}
 use Rattle.rm_market.specs.Best.{NoLoss, Exchange, SizeExchange, IsValuation, values_of}
-use Rattle.rm_market.specs.Board.{Node, Board, leaf_of, count, cap_of, is_feasible, int_sum, total, worth, is_empty, crosses, IsFalling}
-use Rattle.rm_valuation_laws.specs.Changes.{IsConcaveBoard, in_node, node_at, test_at}
+use Rattle.rm_market.specs.Board.{Node, Board, leaf_of, count, cap_of, is_feasible, int_sum, total, worth, is_empty, crosses, IsFalling, node_at, no_node}
+use Rattle.rm_valuation_laws.specs.Changes.{IsConcaveBoard, in_node, test_at}
 use Rattle.rm_valuation_laws.specs.Offers.{IsInside}
 use Rattle.rm_valuation_laws.proofs.Moves.{without_other, apart}
 use Rattle.rm_valuation_laws.proofs.Counts.{one, count_same, count_all, count-with_one, count-without, count_within}
@@ -20,10 +20,7 @@ use Rattle.rm_valuation_laws.proofs.Steps.{moved}
 
 -- ---- nodes as tests
 
-abbrev pub no_node : Node
-no_node = record { leaves = []; steps = [] }
-
-no_member : (S : List ℕ) → is_empty S ≡ true → (x : ℕ) → IsIn x S → ⊥
+pub no_member : (S : List ℕ) → is_empty S ≡ true → (x : ℕ) → IsIn x S → ⊥
 no_member S e x h =
     let same : S ≡ [] = nil_from_length S (eqb-true (length S) 0 e) in
     not_in_nil x (subst (λ L. IsIn x L) same h)

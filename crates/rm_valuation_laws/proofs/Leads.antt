@@ -5,8 +5,8 @@ use Rattle.std.proofs.lemmas.Bool.{cases_eq, cases_Bool, lt-ltb, le-ltb, ltb-tru
 use Rattle.rm_sets.specs.Sets.{has, IsIn, with_one}
 use Rattle.rm_sets.proofs.Sets.{not_both, IsIn-cases}
 use Rattle.rm_sets.proofs.Members.{IsIn-with_one_new, not_in_from}
-use Rattle.rm_valuation_laws.specs.Choice.{swapped, IsBestAddition}
-use Rattle.rm_market.specs.Best.{Values}
+use Rattle.rm_valuation_laws.specs.Choice.{IsBestAddition}
+use Rattle.rm_market.specs.Best.{Values, swapped}
 use Rattle.rm_valuation_laws.specs.Scores.{leads, score_from, score, place, IsWorthiest}
 use Rattle.rm_valuation_laws.proofs.Moves.{with_other, swapped_new, swapped_old, swapped_other, apart}
 use Rattle.rm_valuation_laws.proofs.Score.{cases_int, stays_above, leads_skip, leads_first, compare}
@@ -88,22 +88,22 @@ leads_of_additions ties S x y ne outx outy =
     (λ w nx ny. with_other S x w nx ∙ sym (with_other S y w ny))
 
 -- of two swaps of equal worth, the one that gives up the later contract is the better
-pub leads_of_swaps : (ties S : List ℕ) (x z y : ℕ) → has x S ≡ false → IsIn z S → IsIn y S → (z ≡ y → ⊥) → leads ties (swapped S z x) (swapped S y x) ≡ nat_lt (place ties y) (place ties z)
+pub leads_of_swaps : (ties S : List ℕ) (x z y : ℕ) → has x S ≡ false → IsIn z S → IsIn y S → (z ≡ y → ⊥) → leads ties (swapped S x z) (swapped S x y) ≡ nat_lt (place ties y) (place ties z)
 leads_of_swaps ties S x z y out inz iny ne =
     let nzx : z ≡ x → ⊥ = apart S z x inz out in
     let nyx : y ≡ x → ⊥ = apart S y x iny out in
-    leads_two ties (swapped S z x) (swapped S y x) y z
+    leads_two ties (swapped S x z) (swapped S x y) y z
     (swapped_other S z x y (λ e. ne (sym e)) nyx ∙ iny) (swapped_old S y x nyx) (swapped_old S z x nzx) (swapped_other S y x z ne nzx ∙ inz)
     (λ w ny nz. ⊎_elim
-    (λ e. subst (λ u. has u (swapped S z x) ≡ has u (swapped S y x)) (sym e) (swapped_new S z x ∙ sym (swapped_new S y x)))
+    (λ e. subst (λ u. has u (swapped S x z) ≡ has u (swapped S x y)) (sym e) (swapped_new S z x ∙ sym (swapped_new S y x)))
     (λ nx. swapped_other S z x w nz nx ∙ sym (swapped_other S y x w ny nx))
     (cases_eq w x))
 
 -- a swap of x for z at equal worth is the better exactly where x stands before z
-pub leads_of_swap : (ties S : List ℕ) (x z : ℕ) → has x S ≡ false → IsIn z S → leads ties (swapped S z x) S ≡ nat_lt (place ties x) (place ties z)
+pub leads_of_swap : (ties S : List ℕ) (x z : ℕ) → has x S ≡ false → IsIn z S → leads ties (swapped S x z) S ≡ nat_lt (place ties x) (place ties z)
 leads_of_swap ties S x z out inz =
     let nzx : z ≡ x → ⊥ = apart S z x inz out in
-    leads_two ties (swapped S z x) S x z (swapped_new S z x) out (swapped_old S z x nzx) inz (λ w nx nz. swapped_other S z x w nz nx)
+    leads_two ties (swapped S x z) S x z (swapped_new S z x) out (swapped_old S z x nzx) inz (λ w nx nz. swapped_other S z x w nz nx)
 
 -- ---- greedy addition by worth and tie order
 

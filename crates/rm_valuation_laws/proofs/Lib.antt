@@ -22,4 +22,3 @@ pub mod Decision
 pub mod Order
 pub mod Market
 pub mod BestOf
-pub mod Words

@@ -6,27 +6,26 @@ use Rattle.rm_sets.proofs.Sets.{not_both, same_within, same_sets, IsSet-with_one
 use Rattle.rm_sets.proofs.Search.{cases_within, cases_same}
 use Rattle.rm_sets.proofs.Members.{IsIn-with_one_new, not_in_without, IsSetBelow-with_one, IsSetBelow-smaller, IsIn-without, within-with_one}
 use Rattle.rm_sets.proofs.Sizes.{length-with_one, length-without, same_from_length}
-use Rattle.rm_valuation_laws.specs.Choice.{swapped, greedy}
-use Rattle.rm_market.specs.Best.{IsChoice, Values, is_better, IsBest, IsValuation}
+use Rattle.rm_valuation_laws.specs.Choice.{greedy}
+use Rattle.rm_market.specs.Best.{IsChoice, Values, is_better, IsBest, IsValuation, swapped}
 use Rattle.rm_valuation_laws.specs.Scores.{score, IsOfferAnswer}
 use Rattle.rm_valuation_laws.specs.Offers.{ThreeKinds}
 use Rattle.rm_valuation_laws.proofs.Moves.{with_other, without_other, swapped_new, swapped_old, swapped_other, apart}
 use Rattle.rm_valuation_laws.proofs.Score.{better_from_higher}
 use Rattle.rm_valuation_laws.proofs.Best.{feasible_within, top_from_best, best_by_greedy, choice_from_bests, best_unique}
 
-pub IsSet-swapped : (S : List ℕ) (i j : ℕ) → IsSet S → IsSet (swapped S i j)
-unfolding swapped
+pub IsSet-swapped : (S : List ℕ) (i j : ℕ) → IsSet S → IsSet (swapped S j i)
 IsSet-swapped S i j s = IsSet-with_one (without S i) j (IsSet-without S i s)
 
 -- S with x and then without z is S with x in the place of z
-swapped_is : (S : List ℕ) (z x : ℕ) → IsSet S → IsIn z S → has x S ≡ false → without (with_one S x) z ≡ swapped S z x
+swapped_is : (S : List ℕ) (z x : ℕ) → IsSet S → IsIn z S → has x S ≡ false → without (with_one S x) z ≡ swapped S x z
 swapped_is S z x s inz outx =
     let nzx : z ≡ x → ⊥ = apart S z x inz outx in
-    same_sets (without (with_one S x) z) (swapped S z x) (IsSet-without (with_one S x) z (IsSet-with_one S x s)) (IsSet-swapped S z x s)
+    same_sets (without (with_one S x) z) (swapped S x z) (IsSet-without (with_one S x) z (IsSet-with_one S x s)) (IsSet-swapped S z x s)
     (λ y. ⊎_elim
-    (λ e. subst (λ w. has w (without (with_one S x) z) ≡ has w (swapped S z x)) (sym e) (not_in_without (with_one S x) z ∙ sym (swapped_old S z x nzx)))
+    (λ e. subst (λ w. has w (without (with_one S x) z) ≡ has w (swapped S x z)) (sym e) (not_in_without (with_one S x) z ∙ sym (swapped_old S z x nzx)))
     (λ nz. ⊎_elim
-    (λ e. subst (λ w. has w (without (with_one S x) z) ≡ has w (swapped S z x)) (sym e)
+    (λ e. subst (λ w. has w (without (with_one S x) z) ≡ has w (swapped S x z)) (sym e)
     (without_other (with_one S x) z x (λ f. nzx (sym f)) ∙ (IsIn-with_one_new S x ∙ sym (swapped_new S z x))))
     (λ nx. without_other (with_one S x) z y nz ∙ (with_other S x y nx ∙ sym (swapped_other S z x y nz nx)))
     (cases_eq y x))

@@ -1,23 +1,19 @@
 -- The order of a board's nodes, and what it gives to the walk of an offer and to the kept removals.
-use Rattle.std.proofs.Common.{◌≡◌, ◌⊎◌, ℕ, zero, suc, ◌<◌, ◌≤◌, Bool, true, false, not, ◌&&◌, ◌||◌, List, [], length, eqb, nat_lt, refl, sym, ap, ◌∙◌, subst, inl, inr, ⊎_elim, arith, eq-eqb, eqb-true, IsFalse}
+use Rattle.std.proofs.Common.{◌≡◌, ◌⊎◌, ℕ, zero, suc, ◌<◌, ◌≤◌, Bool, true, false, not, ◌&&◌, ◌||◌, List, [], length, eqb, nat_lt, refl, sym, ap, ap₂, ◌∙◌, subst, inl, inr, ⊎_elim, arith, eq-eqb, eqb-true, IsFalse}
 use Rattle.std.proofs.lemmas.Bool.{cases_eq, cases_Bool, cases_order, and_parts, and_from, and_cases, or_cases, or_left, or_right, not-true, not-false, not_from_true, not_from_false, lt-ltb, ltb-true, false_from_ne_true}
-use Rattle.std.proofs.lemmas.List.{nil_from_length}
+use Rattle.std.proofs.Math.ListN.{get_or-map}
 use Rattle.rm_sets.specs.Sets.{has, IsIn, common, minus}
 use Rattle.rm_sets.proofs.Sets.{not_both, cases_has, same_tests}
 use Rattle.rm_sets.proofs.Members.{IsIn-common, IsIn-minus, IsIn-from_minus, not_in_nil, IsIn-get_or}
-use Rattle.rm_market.specs.Board.{Board, leaf_of, is_empty, crosses}
-use Rattle.rm_valuation_laws.specs.Changes.{IsConcaveBoard, node_at, test_at, swap_loss, loss_upto, IsJustAbove}
+use Rattle.rm_market.specs.Board.{Board, leaf_of, is_empty, crosses, node_at, no_node, sets_of}
+use Rattle.rm_valuation_laws.specs.Changes.{IsConcaveBoard, test_at, swap_loss, loss_upto, IsJustAbove}
 use Rattle.rm_valuation_laws.specs.Offers.{IsInside}
-use Rattle.rm_valuation_laws.specs.Order.{is_subset, is_inside, is_under, IsParent, IsLeafNode, IsRoot}
-use Rattle.rm_valuation_laws.proofs.LaminarExchange.{no_node}
+use Rattle.rm_valuation_laws.specs.Order.{is_under, IsParent, IsLeafNode, IsRoot}
+use Rattle.rm_market.specs.Tree.{set_of, is_subset, is_inside}
+use Rattle.rm_valuation_laws.proofs.LaminarExchange.{no_member}
 use Rattle.rm_valuation_laws.proofs.Cheapest.{loss_of_swap}
 
 -- ---- subsets by test
-
-no_member : (S : List ℕ) → is_empty S ≡ true → (x : ℕ) → IsIn x S → ⊥
-no_member S e x h =
-    let same : S ≡ [] = nil_from_length S (eqb-true (length S) 0 e) in
-    not_in_nil x (subst (λ L. IsIn x L) same h)
 
 empty_from : (S : List ℕ) → ((x : ℕ) → IsIn x S → ⊥) → is_empty S ≡ true
 empty_from S none =
@@ -34,20 +30,27 @@ subset_from A B f = empty_from (minus A B) (λ x h. let parts = IsIn-from_minus 
 
 -- ---- the order
 
-inside_parts : (b : Board) (k a : ℕ) → is_inside b k a ≡ true → (is_subset (node_at b k).leaves (node_at b a).leaves ≡ true) × ((is_subset (node_at b a).leaves (node_at b k).leaves ≡ false) ⊎ (k < a))
+set_is : (b : Board) (a : ℕ) → set_of (sets_of b) a ≡ (node_at b a).leaves
+set_is b a = get_or-map (λ n. n.leaves) b.nodes a no_node
+
+inside_is : (b : Board) (k a : ℕ) → is_inside (sets_of b) k a ≡ (is_subset (node_at b k).leaves (node_at b a).leaves && (not (is_subset (node_at b a).leaves (node_at b k).leaves) || nat_lt k a))
+inside_is b k a = ap₂ (λ A B. is_subset A B && (not (is_subset B A) || nat_lt k a)) (set_is b k) (set_is b a)
+
+inside_parts : (b : Board) (k a : ℕ) → is_inside (sets_of b) k a ≡ true → (is_subset (node_at b k).leaves (node_at b a).leaves ≡ true) × ((is_subset (node_at b a).leaves (node_at b k).leaves ≡ false) ⊎ (k < a))
 inside_parts b k a h =
-    let p = and_parts (is_subset (node_at b k).leaves (node_at b a).leaves) (not (is_subset (node_at b a).leaves (node_at b k).leaves) || nat_lt k a) h in
+    let p = and_parts (is_subset (node_at b k).leaves (node_at b a).leaves) (not (is_subset (node_at b a).leaves (node_at b k).leaves) || nat_lt k a) (sym (inside_is b k a) ∙ h) in
     (p.0, ⊎_elim (λ t. inl (not-true (is_subset (node_at b a).leaves (node_at b k).leaves) t)) (λ t. inr (ltb-true k a t)) (or_cases (not (is_subset (node_at b a).leaves (node_at b k).leaves)) (nat_lt k a) p.1))
 
-inside_from : (b : Board) (k a : ℕ) → is_subset (node_at b k).leaves (node_at b a).leaves ≡ true → (is_subset (node_at b a).leaves (node_at b k).leaves ≡ false) ⊎ (k < a) → is_inside b k a ≡ true
+inside_from : (b : Board) (k a : ℕ) → is_subset (node_at b k).leaves (node_at b a).leaves ≡ true → (is_subset (node_at b a).leaves (node_at b k).leaves ≡ false) ⊎ (k < a) → is_inside (sets_of b) k a ≡ true
 inside_from b k a s h =
-    and_from (is_subset (node_at b k).leaves (node_at b a).leaves) (not (is_subset (node_at b a).leaves (node_at b k).leaves) || nat_lt k a) s
+    inside_is b k a
+    ∙ and_from (is_subset (node_at b k).leaves (node_at b a).leaves) (not (is_subset (node_at b a).leaves (node_at b k).leaves) || nat_lt k a) s
     (⊎_elim
     (λ f. or_left (not (is_subset (node_at b a).leaves (node_at b k).leaves)) (nat_lt k a) (not_from_false (is_subset (node_at b a).leaves (node_at b k).leaves) f))
     (λ lt. or_right (not (is_subset (node_at b a).leaves (node_at b k).leaves)) (nat_lt k a) (lt-ltb k a lt))
     h)
 
-pub inside_trans : (b : Board) (k l a : ℕ) → is_inside b k l ≡ true → is_inside b l a ≡ true → is_inside b k a ≡ true
+pub inside_trans : (b : Board) (k l a : ℕ) → is_inside (sets_of b) k l ≡ true → is_inside (sets_of b) l a ≡ true → is_inside (sets_of b) k a ≡ true
 inside_trans b k l a h g =
     let K = (node_at b k).leaves in
     let L = (node_at b l).leaves in
@@ -66,7 +69,7 @@ inside_trans b k l a h g =
     (cases_Bool (is_subset A K)))
 
 -- no two nodes lie inside each other
-pub inside_once : (b : Board) (k a : ℕ) → is_inside b k a ≡ true → is_inside b a k ≡ true → ⊥
+pub inside_once : (b : Board) (k a : ℕ) → is_inside (sets_of b) k a ≡ true → is_inside (sets_of b) a k ≡ true → ⊥
 inside_once b k a h g =
     let p = inside_parts b k a h in
     let q = inside_parts b a k g in
@@ -75,17 +78,17 @@ inside_once b k a h g =
     (λ lt. ⊎_elim (λ f. not_both (is_subset (node_at b k).leaves (node_at b a).leaves) p.0 f) (λ gt. omega arith) q.1)
     p.1
 
-pub inside_tests : (b : Board) (k a : ℕ) → is_inside b k a ≡ true → IsInside (test_at b k) (test_at b a)
+pub inside_tests : (b : Board) (k a : ℕ) → is_inside (sets_of b) k a ≡ true → IsInside (test_at b k) (test_at b a)
 inside_tests b k a h x t = subset_members (node_at b k).leaves (node_at b a).leaves (inside_parts b k a h).0 (leaf_of b x) t
 
-under_cases : (b : Board) (k a : ℕ) → is_under b k a ≡ true → (k ≡ a) ⊎ (is_inside b k a ≡ true)
-under_cases b k a h = ⊎_elim (λ e. inl (eqb-true k a e)) (λ i. inr i) (or_cases (eqb k a) (is_inside b k a) h)
+under_cases : (b : Board) (k a : ℕ) → is_under b k a ≡ true → (k ≡ a) ⊎ (is_inside (sets_of b) k a ≡ true)
+under_cases b k a h = ⊎_elim (λ e. inl (eqb-true k a e)) (λ i. inr i) (or_cases (eqb k a) (is_inside (sets_of b) k a) h)
 
-under_from : (b : Board) (k a : ℕ) → is_inside b k a ≡ true → is_under b k a ≡ true
-under_from b k a h = or_right (eqb k a) (is_inside b k a) h
+under_from : (b : Board) (k a : ℕ) → is_inside (sets_of b) k a ≡ true → is_under b k a ≡ true
+under_from b k a h = or_right (eqb k a) (is_inside (sets_of b) k a) h
 
 under_self : (b : Board) (k a : ℕ) → k ≡ a → is_under b k a ≡ true
-under_self b k a e = or_left (eqb k a) (is_inside b k a) (eq-eqb k a e)
+under_self b k a e = or_left (eqb k a) (is_inside (sets_of b) k a) (eq-eqb k a e)
 
 pub under_tests : (b : Board) (k a : ℕ) → is_under b k a ≡ true → IsInside (test_at b k) (test_at b a)
 under_tests b k a h =
@@ -95,7 +98,7 @@ under_tests b k a h =
     (under_cases b k a h)
 
 -- two nodes that share a contract
-pub comparable : (b : Board) → IsConcaveBoard b → (k l x : ℕ) → k < length b.nodes → l < length b.nodes → test_at b k x ≡ true → test_at b l x ≡ true → (k ≡ l) ⊎ ((is_inside b k l ≡ true) ⊎ (is_inside b l k ≡ true))
+pub comparable : (b : Board) → IsConcaveBoard b → (k l x : ℕ) → k < length b.nodes → l < length b.nodes → test_at b k x ≡ true → test_at b l x ≡ true → (k ≡ l) ⊎ ((is_inside (sets_of b) k l ≡ true) ⊎ (is_inside (sets_of b) l k ≡ true))
 comparable b ok k l x lk ll tk tl =
     ⊎_elim
     (λ e. inl e)
@@ -105,7 +108,7 @@ comparable b ok k l x lk ll tk tl =
     rest))
     (cases_order k l)
   where
-    by_order : (p q : ℕ) → p < q → test_at b p x ≡ true → test_at b q x ≡ true → IsFalse (crosses (node_at b p).leaves (node_at b q).leaves) → (is_inside b p q ≡ true) ⊎ (is_inside b q p ≡ true)
+    by_order : (p q : ℕ) → p < q → test_at b p x ≡ true → test_at b q x ≡ true → IsFalse (crosses (node_at b p).leaves (node_at b q).leaves) → (is_inside (sets_of b) p q ≡ true) ⊎ (is_inside (sets_of b) q p ≡ true)
     by_order p q lt tp tq h =
         let P = (node_at b p).leaves in
         let Q = (node_at b q).leaves in
@@ -134,16 +137,16 @@ under_or_above b ok d a z k ld lk parent td tk =
     (comparable b ok k d z lk ld tk td)
 
 -- nothing is inside itself
-inside_self : (b : Board) (k : ℕ) → is_inside b k k ≡ true → ⊥
+inside_self : (b : Board) (k : ℕ) → is_inside (sets_of b) k k ≡ true → ⊥
 inside_self b k h = inside_once b k k h h
 
-under_inside : (b : Board) (k l a : ℕ) → is_under b k l ≡ true → is_inside b l a ≡ true → is_inside b k a ≡ true
-under_inside b k l a u i = ⊎_elim (λ e. subst (λ w. is_inside b w a ≡ true) (sym e) i) (λ j. inside_trans b k l a j i) (under_cases b k l u)
+under_inside : (b : Board) (k l a : ℕ) → is_under b k l ≡ true → is_inside (sets_of b) l a ≡ true → is_inside (sets_of b) k a ≡ true
+under_inside b k l a u i = ⊎_elim (λ e. subst (λ w. is_inside (sets_of b) w a ≡ true) (sym e) i) (λ j. inside_trans b k l a j i) (under_cases b k l u)
 
 under_trans : (b : Board) (k l a : ℕ) → is_under b k l ≡ true → is_under b l a ≡ true → is_under b k a ≡ true
 under_trans b k l a u w = ⊎_elim (λ e. subst (λ y. is_under b k y ≡ true) e u) (λ i. under_from b k a (under_inside b k l a u i)) (under_cases b l a w)
 
-not_under_above : (b : Board) (a d k : ℕ) → is_inside b d a ≡ true → is_under b a k ≡ true → is_under b k d ≡ true → ⊥
+not_under_above : (b : Board) (a d k : ℕ) → is_inside (sets_of b) d a ≡ true → is_under b a k ≡ true → is_under b k d ≡ true → ⊥
 not_under_above b a d k i up down = inside_self b a (under_inside b a d a (under_trans b a k d up down) i)
 
 -- ---- what the order gives
@@ -199,7 +202,7 @@ leaf_of_walk b ok a x k la lk leaf ax kx =
     (λ e. subst (λ w. IsInside (test_at b a) (test_at b w)) e (λ y t. t))
     (λ rest. ⊎_elim
     (λ o. inside_tests b a k o)
-    (λ i. absurd (not_both (is_inside b k a) i (leaf k lk)))
+    (λ i. absurd (not_both (is_inside (sets_of b) k a) i (leaf k lk)))
     rest)
     (comparable b ok a k x la lk ax kx)
 
@@ -209,7 +212,7 @@ root_of_walk b ok a x k la lk root ax kx =
     ⊎_elim
     (λ e. subst (λ w. IsInside (test_at b w) (test_at b a)) e (λ y t. t))
     (λ rest. ⊎_elim
-    (λ o. absurd (not_both (is_inside b a k) o (root k lk)))
+    (λ o. absurd (not_both (is_inside (sets_of b) a k) o (root k lk)))
     (λ i. inside_tests b k a i)
     rest)
     (comparable b ok a k x la lk ax kx)
@@ -218,11 +221,11 @@ root_of_walk b ok a x k la lk root ax kx =
 
 -- a node of y inside a that none of the first k such nodes lies outside of
 abbrev IsOutermost : Board → ℕ → ℕ → ℕ → ℕ → Type 0
-IsOutermost b a y k e = (e < length b.nodes) × (test_at b e y ≡ true) × (is_inside b e a ≡ true) × ((l : ℕ) → l < k → test_at b l y ≡ true → is_inside b l a ≡ true → is_under b l e ≡ true)
+IsOutermost b a y k e = (e < length b.nodes) × (test_at b e y ≡ true) × (is_inside (sets_of b) e a ≡ true) × ((l : ℕ) → l < k → test_at b l y ≡ true → is_inside (sets_of b) l a ≡ true → is_under b l e ≡ true)
 
 -- whether node k has y and lies inside a
 abbrev is_part : Board → ℕ → ℕ → ℕ → Bool
-is_part b a y k = test_at b k y && is_inside b k a
+is_part b a y k = test_at b k y && is_inside (sets_of b) k a
 
 outermost : (b : Board) → IsConcaveBoard b → (a y : ℕ) (k : ℕ) → k ≤ length b.nodes →
     ((l : ℕ) → l < k → is_part b a y l ≡ false) ⊎ ((e : ℕ) × IsOutermost b a y k e)
@@ -230,7 +233,7 @@ outermost b ok a y zero le = inl (λ l lt. absurd (omega arith))
 outermost b ok a y (suc k) le =
     ⊎_elim
     (λ here.
-    let parts = and_parts (test_at b k y) (is_inside b k a) here in
+    let parts = and_parts (test_at b k y) (is_inside (sets_of b) k a) here in
     ⊎_elim
     (λ none. inr (
       k,
@@ -239,7 +242,7 @@ outermost b ok a y (suc k) le =
         parts.0,
         parts.1,
         λ l lt t i.
-            ⊎_elim (λ e. under_self b l k e) (λ ne. absurd (not_both (is_part b a y l) (and_from (test_at b l y) (is_inside b l a) t i) (none l (omega arith)))) (cases_eq l k),
+            ⊎_elim (λ e. under_self b l k e) (λ ne. absurd (not_both (is_part b a y l) (and_from (test_at b l y) (is_inside (sets_of b) l a) t i) (none l (omega arith)))) (cases_eq l k),
       ),
     ))
     (λ some.
@@ -249,7 +252,7 @@ outermost b ok a y (suc k) le =
     (λ same. inr (e, (o.0, o.1, o.2, λ l lt t i. ⊎_elim (λ f. under_self b l e (f ∙ sym same)) (λ ne. o.3 l (omega arith) t i) (cases_eq l k))))
     (λ rest. ⊎_elim
     (λ inside_k. inr (k, (omega arith, parts.0, parts.1, λ l lt t i. ⊎_elim (λ f. under_self b l k f) (λ ne. under_from b l k (under_inside b l e k (o.3 l (omega arith) t i) inside_k)) (cases_eq l k))))
-    (λ inside_e. inr (e, (o.0, o.1, o.2, λ l lt t i. ⊎_elim (λ f. under_from b l e (subst (λ w. is_inside b w e ≡ true) (sym f) inside_e)) (λ ne. o.3 l (omega arith) t i) (cases_eq l k))))
+    (λ inside_e. inr (e, (o.0, o.1, o.2, λ l lt t i. ⊎_elim (λ f. under_from b l e (subst (λ w. is_inside (sets_of b) w e ≡ true) (sym f) inside_e)) (λ ne. o.3 l (omega arith) t i) (cases_eq l k))))
     rest)
     (comparable b ok e k y o.0 (omega arith) o.1 parts.0))
     (outermost b ok a y k (omega arith)))
@@ -262,17 +265,17 @@ outermost b ok a y (suc k) le =
         some.1.1,
         some.1.2,
         λ l lt t i.
-            ⊎_elim (λ e. absurd (not_both (is_part b a y l) (and_from (test_at b l y) (is_inside b l a) t i) (subst (λ w. is_part b a y w ≡ false) (sym e) other))) (λ ne. some.1.3 l (omega arith) t i) (cases_eq l k),
+            ⊎_elim (λ e. absurd (not_both (is_part b a y l) (and_from (test_at b l y) (is_inside (sets_of b) l a) t i) (subst (λ w. is_part b a y w ≡ false) (sym e) other))) (λ ne. some.1.3 l (omega arith) t i) (cases_eq l k),
       ),
     ))
     (outermost b ok a y k (omega arith)))
     (cases_Bool (is_part b a y k))
 
 -- a contract of a that some node inside a has lies in a child of a
-pub child_of : (b : Board) → IsConcaveBoard b → (a l y : ℕ) → a < length b.nodes → l < length b.nodes → test_at b l y ≡ true → is_inside b l a ≡ true → (e : ℕ) × (e < length b.nodes) × IsParent b e a × (test_at b e y ≡ true)
+pub child_of : (b : Board) → IsConcaveBoard b → (a l y : ℕ) → a < length b.nodes → l < length b.nodes → test_at b l y ≡ true → is_inside (sets_of b) l a ≡ true → (e : ℕ) × (e < length b.nodes) × IsParent b e a × (test_at b e y ≡ true)
 child_of b ok a l y la ll tl il =
     ⊎_elim
-    (λ none. absurd (not_both (is_part b a y l) (and_from (test_at b l y) (is_inside b l a) tl il) (none l ll)))
+    (λ none. absurd (not_both (is_part b a y l) (and_from (test_at b l y) (is_inside (sets_of b) l a) tl il) (none l ll)))
     (λ some.
     let e = some.0 in
     let o = some.1 in (
@@ -285,7 +288,7 @@ child_of b ok a l y la ll tl il =
             ⊎_elim
             (λ same. under_self b a k (sym same))
             (λ rest. ⊎_elim
-            (λ in_a. absurd (inside_self b e (⊎_elim (λ f. subst (λ w. is_inside b e w ≡ true) f i) (λ j. inside_trans b e k e i j) (under_cases b k e (o.3 k lk ky in_a)))))
+            (λ in_a. absurd (inside_self b e (⊎_elim (λ f. subst (λ w. is_inside (sets_of b) e w ≡ true) f i) (λ j. inside_trans b e k e i j) (under_cases b k e (o.3 k lk ky in_a)))))
             (λ out. under_from b a k out)
             rest)
             (comparable b ok k a y lk la ky (inside_tests b l a il y tl));

@@ -7,8 +7,8 @@ use Rattle.std.proofs.lemmas.Bool.Decides.{Decides-int_eq}
 use Rattle.rm_sets.specs.Sets.{has, IsIn, with_one, without}
 use Rattle.rm_sets.proofs.Sets.{cases_has, not_both, IsIn-here, IsIn-later, IsIn-cases, same_sets}
 use Rattle.rm_sets.proofs.Members.{IsIn-with_one_new, not_in_without, not_in_from}
-use Rattle.rm_valuation_laws.specs.Choice.{swapped, IsGoodMove, HasExchange, HasSizeExchange, IsStrict}
-use Rattle.rm_market.specs.Best.{Values, is_in_one, is_better, NoLoss, Exchange, SizeExchange}
+use Rattle.rm_valuation_laws.specs.Choice.{IsGoodMove, HasExchange, HasSizeExchange, IsStrict}
+use Rattle.rm_market.specs.Best.{Values, is_in_one, is_better, NoLoss, Exchange, SizeExchange, swapped}
 use Rattle.rm_valuation_laws.specs.Scores.{leads, bit, score_from, score}
 use Rattle.rm_valuation_laws.proofs.Moves.{with_other, without_other, swapped_new, swapped_old, swapped_other, apart}
 
@@ -225,16 +225,16 @@ together_size S T j h out x =
     (λ ne. four_bits (has x S) (has x T) (has x (with_one S j)) (has x (without T j)) (has x S) (has x T) (has x S) (has x T) refl refl (with_other S j x ne) (without_other T j x ne) refl)
     (cases_eq x j)
 
-together_swap : (S T : List ℕ) (i j : ℕ) → IsIn i S → has i T ≡ false → IsIn j T → has j S ≡ false → SameTogether S T (swapped S i j) (swapped T j i)
+together_swap : (S T : List ℕ) (i j : ℕ) → IsIn i S → has i T ≡ false → IsIn j T → has j S ≡ false → SameTogether S T (swapped S j i) (swapped T i j)
 together_swap S T i j hi outi hj outj x =
     let ne : i ≡ j → ⊥ = apart S i j hi outj in
     ⊎_elim
-    (λ e. subst (λ z. (bit (has z S) +ℤ bit (has z T)) ≡ (bit (has z (swapped S i j)) +ℤ bit (has z (swapped T j i)))) (sym e)
-    (four_bits (has i S) (has i T) (has i (swapped S i j)) (has i (swapped T j i)) true false false true hi outi (swapped_old S i j ne) (swapped_new T j i) refl))
+    (λ e. subst (λ z. (bit (has z S) +ℤ bit (has z T)) ≡ (bit (has z (swapped S j i)) +ℤ bit (has z (swapped T i j)))) (sym e)
+    (four_bits (has i S) (has i T) (has i (swapped S j i)) (has i (swapped T i j)) true false false true hi outi (swapped_old S i j ne) (swapped_new T j i) refl))
     (λ ni. ⊎_elim
-    (λ e. subst (λ z. (bit (has z S) +ℤ bit (has z T)) ≡ (bit (has z (swapped S i j)) +ℤ bit (has z (swapped T j i)))) (sym e)
-    (four_bits (has j S) (has j T) (has j (swapped S i j)) (has j (swapped T j i)) false true true false outj hj (swapped_new S i j) (swapped_old T j i (λ same. ne (sym same))) refl))
-    (λ nj. four_bits (has x S) (has x T) (has x (swapped S i j)) (has x (swapped T j i)) (has x S) (has x T) (has x S) (has x T) refl refl (swapped_other S i j x ni nj) (swapped_other T j i x nj ni) refl)
+    (λ e. subst (λ z. (bit (has z S) +ℤ bit (has z T)) ≡ (bit (has z (swapped S j i)) +ℤ bit (has z (swapped T i j)))) (sym e)
+    (four_bits (has j S) (has j T) (has j (swapped S j i)) (has j (swapped T i j)) false true true false outj hj (swapped_new S i j) (swapped_old T j i (λ same. ne (sym same))) refl))
+    (λ nj. four_bits (has x S) (has x T) (has x (swapped S j i)) (has x (swapped T i j)) (has x S) (has x T) (has x S) (has x T) refl refl (swapped_other S i j x ni nj) (swapped_other T j i x nj ni) refl)
     (cases_eq x j))
     (cases_eq x i)
 
@@ -251,7 +251,6 @@ not_in : (x : ℕ) (S : List ℕ) → has x S ≡ false → IsIn x S → ⊥
 not_in x S out h = not_both (has x S) h out
 
 pub score_exchange : (n : ℕ) (v : Values) → Exchange n v → HasExchange n v.feasible (score v)
-unfolding swapped
 score_exchange n v exchange S T i fS fT h out =
     ⊎_elim
     (λ m. inl (score_move v S T (without S i) (with_one T i) (together_alone S T i h out) m))

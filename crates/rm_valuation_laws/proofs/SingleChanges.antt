@@ -6,7 +6,8 @@ use Rattle.rm_sets.specs.Sets.{has, IsIn, IsWithin, with_one, without}
 use Rattle.rm_sets.proofs.Sets.{not_both, same_within}
 use Rattle.rm_sets.proofs.Search.{cases_within}
 use Rattle.rm_sets.proofs.Members.{IsIn-with_one_new, not_in_without, IsSetBelow-with_one, IsSetBelow-without, with_one_within}
-use Rattle.rm_valuation_laws.specs.Choice.{swapped, IsFeasible, HasExchange, IsStuck, IsUpper}
+use Rattle.rm_valuation_laws.specs.Choice.{IsFeasible, HasExchange, IsStuck, IsUpper}
+use Rattle.rm_market.specs.Best.{swapped}
 use Rattle.rm_valuation_laws.proofs.Moves.{with_other, without_other, swapped_new, swapped_old, swapped_other, apart, IsSetBelow-swapped, swapped_within, smaller_within}
 
 -- ---- at how many places two sets differ
@@ -81,12 +82,12 @@ between_with_one S T i h x =
     (λ ne. inl (with_other T i x ne))
     (cases_eq x i)
 
-between_swapped : (S T : List ℕ) (i j : ℕ) → has i S ≡ false → IsIn j S → IsBetween S T (swapped T i j)
+between_swapped : (S T : List ℕ) (i j : ℕ) → has i S ≡ false → IsIn j S → IsBetween S T (swapped T j i)
 between_swapped S T i j out h x =
     ⊎_elim
-    (λ e. inr (subst (λ z. has z (swapped T i j) ≡ has z S) (sym e) (swapped_old T i j (λ same. apart S j i h out (sym same)) ∙ sym out)))
+    (λ e. inr (subst (λ z. has z (swapped T j i) ≡ has z S) (sym e) (swapped_old T i j (λ same. apart S j i h out (sym same)) ∙ sym out)))
     (λ ni. ⊎_elim
-    (λ e. inr (subst (λ z. has z (swapped T i j) ≡ has z S) (sym e) (swapped_new T i j ∙ sym h)))
+    (λ e. inr (subst (λ z. has z (swapped T j i) ≡ has z S) (sym e) (swapped_new T i j ∙ sym h)))
     (λ nj. inl (swapped_other T i j x ni nj))
     (cases_eq x j))
     (cases_eq x i)
@@ -113,8 +114,8 @@ from_extra n feasible score X S T exchange stuck closer fT w i h out =
     let j = s.0 in
     let hj : IsIn j S = s.1 in
     let m = s.3 in
-    let less = differ_less n S T (swapped T i j) i (between_swapped S T i j out hj) (swapped_old T i j (λ same. apart S j i hj out (sym same)) ∙ sym out) differs lt in
-    let low = closer (swapped T i j) less (record { is_set = IsSetBelow-swapped n T i j fT.is_set (stuck.is_feasible.is_set.below j hj); passes = m.first }) (swapped_within T X i j w (stuck.within j hj)) in
+    let less = differ_less n S T (swapped T j i) i (between_swapped S T i j out hj) (swapped_old T i j (λ same. apart S j i hj out (sym same)) ∙ sym out) differs lt in
+    let low = closer (swapped T j i) less (record { is_set = IsSetBelow-swapped n T i j fT.is_set (stuck.is_feasible.is_set.below j hj); passes = m.first }) (swapped_within T X i j w (stuck.within j hj)) in
     let high = stuck.swap i j (w i h) out hj m.second in
     let sum = m.no_loss in
     omega (arith, ints))

@@ -6,11 +6,10 @@ use Rattle.std.proofs.lemmas.List.Elements.{All-from_get_or}
 use Rattle.rm_sets.specs.Sets.{has, IsIn, IsSet, IsSetBelow, with_one, without}
 use Rattle.rm_sets.proofs.Sets.{not_both}
 use Rattle.rm_sets.proofs.Members.{not_in_without, with_one-without, without_within, IsSetBelow-without, IsSetBelow-with_one}
-use Rattle.rm_valuation_laws.specs.Choice.{swapped}
-use Rattle.rm_market.specs.Best.{Values, is_better, IsBest, values_of}
-use Rattle.rm_market.specs.Board.{Node, Board, count, is_feasible, int_sum, total, worth}
+use Rattle.rm_market.specs.Best.{Values, is_better, IsBest, values_of, swapped}
+use Rattle.rm_market.specs.Board.{Node, Board, count, is_feasible, int_sum, total, worth, node_at, no_node}
 use Rattle.rm_valuation_laws.specs.Scores.{bit, score, place}
-use Rattle.rm_valuation_laws.specs.Changes.{IsConcaveBoard, in_node, on, next_step, swap_gain, swap_loss, node_at, test_at}
+use Rattle.rm_valuation_laws.specs.Changes.{IsConcaveBoard, in_node, on, next_step, swap_gain, swap_loss, test_at}
 use Rattle.rm_valuation_laws.specs.Offers.{IsInside, EndsWalk, IsWalkAnswer, AtOneStep}
 use Rattle.rm_valuation_laws.proofs.Moves.{with_other, without_other, swapped_new, swapped_old, swapped_other, apart}
 use Rattle.rm_valuation_laws.proofs.Counts.{one, count-with_one, count-without}
@@ -19,7 +18,7 @@ use Rattle.rm_valuation_laws.proofs.Leads.{score_by_worth, score_by_tie, leads_o
 use Rattle.rm_valuation_laws.proofs.ChoiceLaws.{unequal}
 use Rattle.rm_valuation_laws.proofs.Best.{top_from_best}
 use Rattle.rm_valuation_laws.proofs.Offers.{offer_best}
-use Rattle.rm_valuation_laws.proofs.LaminarExchange.{no_node, int_sum-le, board_laws}
+use Rattle.rm_valuation_laws.proofs.LaminarExchange.{int_sum-le, board_laws}
 use Rattle.rm_valuation_laws.proofs.Change.{count-swapped, worth_swapped, swap_infeasible}
 
 -- ---- a contract that shares no node with the offer
@@ -33,16 +32,16 @@ unshared steps h a r s false true no_both ea er es = let p : r ≡ h = omega ari
 unshared steps h a r s false false no_both ea er es = let p : r ≡ h = omega arith in let q : s ≡ h = omega arith in let o : a ≡ h = omega arith in rw (p, q, o) (omega (arith, ints))
 
 -- H with x for z, and H, have the members of H with x, and of H without z
-together_unshared : (H : List ℕ) (z x : ℕ) → IsIn z H → has x H ≡ false → SameTogether (swapped H z x) H (with_one H x) (without H z)
+together_unshared : (H : List ℕ) (z x : ℕ) → IsIn z H → has x H ≡ false → SameTogether (swapped H x z) H (with_one H x) (without H z)
 together_unshared H z x inz out y =
     let ne : z ≡ x → ⊥ = apart H z x inz out in
     ⊎_elim
-    (λ e. subst (λ w. (bit (has w (swapped H z x)) +ℤ bit (has w H)) ≡ (bit (has w (with_one H x)) +ℤ bit (has w (without H z)))) (sym e)
-    (bits (has z (swapped H z x)) (has z H) (has z (with_one H x)) (has z (without H z)) false true true false (swapped_old H z x ne) inz (with_other H x z ne ∙ inz) (not_in_without H z) refl))
+    (λ e. subst (λ w. (bit (has w (swapped H x z)) +ℤ bit (has w H)) ≡ (bit (has w (with_one H x)) +ℤ bit (has w (without H z)))) (sym e)
+    (bits (has z (swapped H x z)) (has z H) (has z (with_one H x)) (has z (without H z)) false true true false (swapped_old H z x ne) inz (with_other H x z ne ∙ inz) (not_in_without H z) refl))
     (λ nz. ⊎_elim
-    (λ e. subst (λ w. (bit (has w (swapped H z x)) +ℤ bit (has w H)) ≡ (bit (has w (with_one H x)) +ℤ bit (has w (without H z)))) (sym e)
-    (bits (has x (swapped H z x)) (has x H) (has x (with_one H x)) (has x (without H z)) true false true false (swapped_new H z x) out (with_new H x) (without_other H z x (λ f. ne (sym f)) ∙ out) refl))
-    (λ nx. bits (has y (swapped H z x)) (has y H) (has y (with_one H x)) (has y (without H z)) (has y H) (has y H) (has y H) (has y H) (swapped_other H z x y nz nx) refl (with_other H x y nx) (without_other H z y nz) refl)
+    (λ e. subst (λ w. (bit (has w (swapped H x z)) +ℤ bit (has w H)) ≡ (bit (has w (with_one H x)) +ℤ bit (has w (without H z)))) (sym e)
+    (bits (has x (swapped H x z)) (has x H) (has x (with_one H x)) (has x (without H z)) true false true false (swapped_new H z x) out (with_new H x) (without_other H z x (λ f. ne (sym f)) ∙ out) refl))
+    (λ nx. bits (has y (swapped H x z)) (has y H) (has y (with_one H x)) (has y (without H z)) (has y H) (has y H) (has y H) (has y H) (swapped_other H z x y nz nx) refl (with_other H x y nx) (without_other H z y nz) refl)
     (cases_eq y x))
     (cases_eq y z)
   where
@@ -58,7 +57,7 @@ together_unshared H z x inz out y =
 -- such a swap is no better than the addition
 pub unshared_not_better : (b : Board) (H : List ℕ) (z x : ℕ) → IsConcaveBoard b → IsSetBelow (length b.leaves) H → IsBest (values_of b) H H → IsIn z H → has x H ≡ false →
     ((k : ℕ) → k < length b.nodes → test_at b k z ≡ true → test_at b k x ≡ true → ⊥) → is_feasible b (with_one H x) ≡ true →
-    score (values_of b) (swapped H z x) <ℤ score (values_of b) (with_one H x)
+    score (values_of b) (swapped H x z) <ℤ score (values_of b) (with_one H x)
 unfolding worth
 unshared_not_better b H z x ok sH own inz out apart_nodes fA =
     let v = values_of b in
@@ -67,12 +66,12 @@ unshared_not_better b H z x ok sH own inz out apart_nodes fA =
     let fR = laws.fewer (without H z) H sR sH (without_within H z) own.feasible in
     let top = top_from_best (length b.leaves) v H H own sH in
     let lower = top.above (without H z) (record { is_set = sR; passes = fR }) (without_within H z) (λ e. unequal H (without H z) z inz (not_in_without H z) (sym e)) in
-    let sums = int_sum-le (λ n. total n.steps (count b n.leaves (swapped H z x))) (λ n. total n.steps (count b n.leaves H)) (λ n. total n.steps (count b n.leaves (with_one H x))) (λ n. total n.steps (count b n.leaves (without H z))) b.nodes
-    (All-from_get_or (λ n. (total n.steps (count b n.leaves (swapped H z x)) +ℤ total n.steps (count b n.leaves H)) ≤ℤ (total n.steps (count b n.leaves (with_one H x)) +ℤ total n.steps (count b n.leaves (without H z)))) b.nodes no_node
-    (λ k lt. unshared (node_at b k).steps (count_by (test_at b k) H) (count_by (test_at b k) (with_one H x)) (count_by (test_at b k) (without H z)) (count_by (test_at b k) (swapped H z x))
+    let sums = int_sum-le (λ n. total n.steps (count b n.leaves (swapped H x z))) (λ n. total n.steps (count b n.leaves H)) (λ n. total n.steps (count b n.leaves (with_one H x))) (λ n. total n.steps (count b n.leaves (without H z))) b.nodes
+    (All-from_get_or (λ n. (total n.steps (count b n.leaves (swapped H x z)) +ℤ total n.steps (count b n.leaves H)) ≤ℤ (total n.steps (count b n.leaves (with_one H x)) +ℤ total n.steps (count b n.leaves (without H z)))) b.nodes no_node
+    (λ k lt. unshared (node_at b k).steps (count_by (test_at b k) H) (count_by (test_at b k) (with_one H x)) (count_by (test_at b k) (without H z)) (count_by (test_at b k) (swapped H x z))
     (test_at b k z) (test_at b k x) (apart_nodes k lt) (count-with_one (test_at b k) H x out) (count-without (test_at b k) H z sH.ascending inz) (count-swapped (test_at b k) H z x sH.ascending inz out))) in
-    let scores = score_together (swapped H z x) H (with_one H x) (without H z) (together_unshared H z x inz out) b.ties (worth b (swapped H z x)) (worth b H) (worth b (with_one H x)) (worth b (without H z)) sums in
-    add_up (score v (swapped H z x)) (score v H) (score v (with_one H x)) (score v (without H z)) scores lower
+    let scores = score_together (swapped H x z) H (with_one H x) (without H z) (together_unshared H z x inz out) b.ties (worth b (swapped H x z)) (worth b H) (worth b (with_one H x)) (worth b (without H z)) sums in
+    add_up (score v (swapped H x z)) (score v H) (score v (with_one H x)) (score v (without H z)) scores lower
   where
     add_up : (s h a r : ℤ) → (s +ℤ h) ≤ℤ (a +ℤ r) → r <ℤ h → s <ℤ a
     add_up s h a r le lt = omega (arith, ints)
@@ -104,8 +103,8 @@ walk_best b H x k D ok sH lt out own lk ends answer =
       not_swapped = λ z inz. ⊎_elim
           (λ inside. answer.not_swapped z inz inside)
           (λ outside. ⊎_elim
-          (λ full. infeasible_not_better (values_of b) (swapped H z x) D (swap_infeasible b H z x k sH.ascending inz out lk ends.0 outside full))
-          (λ open_end. not_better_through (values_of b) (swapped H z x) (with_one H x) D open_end.0 answer.feasible
+          (λ full. infeasible_not_better (values_of b) (swapped H x z) D (swap_infeasible b H z x k sH.ascending inz out lk ends.0 outside full))
+          (λ open_end. not_better_through (values_of b) (swapped H x z) (with_one H x) D open_end.0 answer.feasible
           (unshared_not_better b H z x ok sH own inz out (λ l ll tz tx. not_both (test_at b k z) (open_end.1 l ll tx z tz) outside) open_end.0)
           answer.not_added)
           ends.1)
@@ -139,8 +138,8 @@ same_gain b H x z y one_step (n ∷ nodes) all =
     same true j l s e = ap (λ c. on (true && not c) s) (e refl)
     same false j l s e = refl
 
-pub swap_worths : (b : Board) (H : List ℕ) (x z y : ℕ) → IsSet H → IsIn z H → IsIn y H → has x H ≡ false → is_feasible b H ≡ true → is_feasible b (swapped H z x) ≡ true → is_feasible b (swapped H y x) ≡ true →
-    AtOneStep b x z y → (worth b (swapped H z x) +ℤ swap_loss b H x z) ≡ (worth b (swapped H y x) +ℤ swap_loss b H x y)
+pub swap_worths : (b : Board) (H : List ℕ) (x z y : ℕ) → IsSet H → IsIn z H → IsIn y H → has x H ≡ false → is_feasible b H ≡ true → is_feasible b (swapped H x z) ≡ true → is_feasible b (swapped H x y) ≡ true →
+    AtOneStep b x z y → (worth b (swapped H x z) +ℤ swap_loss b H x z) ≡ (worth b (swapped H x y) +ℤ swap_loss b H x y)
 swap_worths b H x z y s inz iny out fH fz fy one_step =
     let ez = worth_swapped b H z x s inz out fH fz in
     let ey = worth_swapped b H y x s iny out fH fy in
@@ -148,17 +147,17 @@ swap_worths b H x z y s inz iny out fH fz fy one_step =
     omega (arith, ints)
 
 -- the one whose removal loses less is the better to displace, and of two that lose the same the later in tie order
-pub better_swap : (b : Board) (H : List ℕ) (x z y : ℕ) → IsSet H → IsIn z H → IsIn y H → has x H ≡ false → is_feasible b H ≡ true → is_feasible b (swapped H z x) ≡ true → is_feasible b (swapped H y x) ≡ true →
-    AtOneStep b x z y → (swap_loss b H x z <ℤ swap_loss b H x y) ⊎ ((swap_loss b H x z ≡ swap_loss b H x y) × (place b.ties y < place b.ties z)) → is_better (values_of b) (swapped H z x) (swapped H y x) ≡ true
+pub better_swap : (b : Board) (H : List ℕ) (x z y : ℕ) → IsSet H → IsIn z H → IsIn y H → has x H ≡ false → is_feasible b H ≡ true → is_feasible b (swapped H x z) ≡ true → is_feasible b (swapped H x y) ≡ true →
+    AtOneStep b x z y → (swap_loss b H x z <ℤ swap_loss b H x y) ⊎ ((swap_loss b H x z ≡ swap_loss b H x y) × (place b.ties y < place b.ties z)) → is_better (values_of b) (swapped H x z) (swapped H x y) ≡ true
 better_swap b H x z y s inz iny out fH fz fy one_step how =
     let v = values_of b in
     let e = swap_worths b H x z y s inz iny out fH fz fy one_step in
-    better_from_higher v (swapped H z x) (swapped H y x) fz
+    better_from_higher v (swapped H x z) (swapped H x y) fz
     (⊎_elim
-    (λ lt. score_by_worth v (swapped H z x) (swapped H y x) (omega (arith, ints)))
+    (λ lt. score_by_worth v (swapped H x z) (swapped H x y) (omega (arith, ints)))
     (λ tie.
     let l = tie.0 in
     let p = tie.1 in
     let ne : z ≡ y → ⊥ = λ f. (let g : place b.ties z ≡ place b.ties y = ap (place b.ties) f in omega arith) in
-    score_by_tie v (swapped H z x) (swapped H y x) (omega (arith, ints)) (leads_of_swaps b.ties H x z y out inz iny ne ∙ lt-ltb (place b.ties y) (place b.ties z) p))
+    score_by_tie v (swapped H x z) (swapped H x y) (omega (arith, ints)) (leads_of_swaps b.ties H x z y out inz iny ne ∙ lt-ltb (place b.ties y) (place b.ties z) p))
     how)

@@ -1,9 +1,8 @@
 -- Boards whose worth is a valuation, and what single changes do to it.
 use Rattle.std.specs.Prelude.{◌∷◌, List, Bool, [], false, ◌≡◌, ◌↔◌, ℕ, zero, suc, ◌-◌, ◌<◌, ◌≤◌, ◌<ℤ◌, true, ◌&&◌, ◌||◌, not, ◌==◌, map, length, ℤ, pos, ◌+ℤ◌, IsTrue, IsFalse, slice_index_or, All, AllPairs}
 use Rattle.rm_sets.specs.Sets.{has, IsIn}
-use Rattle.rm_market.specs.Board.{Node, Board, leaf_of, count, int_sum, crosses, IsFalling}
+use Rattle.rm_market.specs.Board.{Node, Board, node_at, leaf_of, count, int_sum, crosses, IsFalling}
 use Rattle.rm_valuation_laws.specs.Scores.{place}
-pub use Rattle.rm_market.specs.Certificate.{node_at}
 
 -- any two nodes are nested or apart, no steps rise, and the tie order has each contract
 pub record IsConcaveBoard (b : Board) : Type 0 where

@@ -1,14 +1,13 @@
 -- One offer to a held set: the walk along the offer's nodes, and the sets that it may lead to.
 use Rattle.std.specs.Prelude.{◌≡◌, ℕ, ◌<◌, ◌≤◌, Bool, true, List, length, ◌⊎◌, IsTrue, IsFalse}
 use Rattle.rm_sets.specs.Sets.{IsIn, IsSet, IsWithin, with_one}
-use Rattle.rm_valuation_laws.specs.Choice.{swapped}
-use Rattle.rm_market.specs.Best.{is_better, values_of}
-use Rattle.rm_market.specs.Board.{Node, Board, count, is_feasible}
-use Rattle.rm_valuation_laws.specs.Changes.{node_at, test_at}
+use Rattle.rm_market.specs.Best.{is_better, values_of, swapped}
+use Rattle.rm_market.specs.Board.{Node, Board, count, is_feasible, node_at}
+use Rattle.rm_valuation_laws.specs.Changes.{test_at}
 
 -- the three kinds of a new choice
 abbrev pub ThreeKinds : List ℕ → ℕ → List ℕ → Type 0
-ThreeKinds H x D = (D ≡ H) ⊎ ((D ≡ with_one H x) ⊎ ((z : ℕ) × IsIn z H × (D ≡ swapped H z x)))
+ThreeKinds H x D = (D ≡ H) ⊎ ((D ≡ with_one H x) ⊎ ((z : ℕ) × IsIn z H × (D ≡ swapped H x z)))
 
 -- what passes p passes q
 abbrev pub IsInside : (ℕ → Bool) → (ℕ → Bool) → Type 0
@@ -32,7 +31,7 @@ pub record IsWalkAnswer (b : Board) (H : List ℕ) (x k : ℕ) (D : List ℕ) : 
   pub feasible : IsTrue (is_feasible b D)
   pub not_refused : IsFalse (is_better (values_of b) H D)
   pub not_added : IsFalse (is_better (values_of b) (with_one H x) D)
-  pub not_swapped : (z : ℕ) → IsIn z H → test_at b k z ≡ true → IsFalse (is_better (values_of b) (swapped H z x) D)
+  pub not_swapped : (z : ℕ) → IsIn z H → test_at b k z ≡ true → IsFalse (is_better (values_of b) (swapped H x z) D)
 
 -- z and y lie in the same nodes of x
 abbrev pub AtOneStep : Board → ℕ → ℕ → ℕ → Type 0

@@ -3,8 +3,8 @@ use Rattle.std.specs.Prelude.{◌≡◌, ℕ, ◌≤◌, Bool, true, false, ◌=
 use Rattle.std.specs.List.{position_or_len}
 use Rattle.std.specs.Option.{option_map_or}
 use Rattle.rm_sets.specs.Sets.{has, IsIn, IsSet, IsWithin, with_one, without}
-use Rattle.rm_valuation_laws.specs.Choice.{swapped, IsTopSoFar}
-use Rattle.rm_market.specs.Best.{Values, is_in_one, is_better}
+use Rattle.rm_valuation_laws.specs.Choice.{IsTopSoFar}
+use Rattle.rm_market.specs.Best.{Values, is_in_one, is_better, swapped}
 
 -- the first contract of these that is in exactly one of the two sets is in S
 abbrev pub leads : List ℕ → List ℕ → List ℕ → Bool
@@ -17,7 +17,7 @@ pub record IsUnimproved (v : Values) (X S : List ℕ) : Type 0 where
   pub feasible : IsTrue (v.feasible S)
   pub add : (x : ℕ) → IsIn x X → ¬ IsIn x S → IsFalse (is_better v (with_one S x) S)
   pub remove : (z : ℕ) → IsIn z S → IsFalse (is_better v (without S z) S)
-  pub swap : (x z : ℕ) → IsIn x X → ¬ IsIn x S → IsIn z S → IsFalse (is_better v (swapped S z x) S)
+  pub swap : (x z : ℕ) → IsIn x X → ¬ IsIn x S → IsIn z S → IsFalse (is_better v (swapped S x z) S)
 
 -- ---- worth and tie order as one number
 
@@ -44,7 +44,7 @@ pub record IsOfferAnswer (v : Values) (H : List ℕ) (x : ℕ) (D : List ℕ) : 
   pub feasible : IsTrue (v.feasible D)
   pub not_refused : IsFalse (is_better v H D)
   pub not_added : IsFalse (is_better v (with_one H x) D)
-  pub not_swapped : (z : ℕ) → IsIn z H → IsFalse (is_better v (swapped H z x) D)
+  pub not_swapped : (z : ℕ) → IsIn z H → IsFalse (is_better v (swapped H x z) D)
 
 -- x is the addition to S within X of greatest worth, and of equal worth the first in tie order
 pub record IsWorthiest (v : Values) (X S : List ℕ) (x : ℕ) : Type 0 where

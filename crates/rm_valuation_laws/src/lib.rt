@@ -4,13 +4,13 @@
 
 ghost use Rattle.std.specs.Prelude.{map, ◌≡◌, ◌↔◌, ◌⊎◌, ℕ, ◌+◌, ◌<◌, ◌≤◌, Bool, ◌==◌, List, [], length, ℤ, ◌+ℤ◌, ◌≤ℤ◌, ◌<ℤ◌, IsTrue, IsFalse};
 ghost use Rattle.rm_sets.specs.Sets.{has, IsIn, IsSet, IsSetBelow, IsWithin, with_one, without};
-ghost use Rattle.rm_valuation_laws.specs.Choice.{HasExchange, HasSizeExchange, IsStrict, swapped, greedy};
-ghost use Rattle.rm_market.specs.Best.{IsChoice, Values, is_better, IsBest, IsValuation, values_of, best_of};
-ghost use Rattle.rm_market.specs.Board.{int_sum, Board, IsBoard, contract_count, is_feasible, worth};
+ghost use Rattle.rm_valuation_laws.specs.Choice.{HasExchange, HasSizeExchange, IsStrict, greedy};
+ghost use Rattle.rm_market.specs.Best.{IsChoice, Values, is_better, IsBest, IsValuation, values_of, best_of, swapped};
+ghost use Rattle.rm_market.specs.Board.{int_sum, Board, IsBoard, contract_count, is_feasible, worth, node_at, sets_of};
 ghost use Rattle.rm_valuation_laws.specs.Scores.{score, place, IsUnimproved, IsOfferAnswer, IsWorthiest, IsBestSoFar};
-ghost use Rattle.rm_valuation_laws.specs.Changes.{loss_upto, IsChain, next_step, last_step, IsConcaveBoard, gain, loss, swap_gain, swap_loss, node_at, test_at, IsCheaper, IsCheapest, IsJustAbove};
-ghost use Rattle.rm_valuation_laws.specs.Order.{is_inside, is_under, IsParent, IsLeafNode, IsRoot};
-ghost use Rattle.rm_valuation_laws.specs.Words.{InsideAlike, SwappedAlike};
+ghost use Rattle.rm_valuation_laws.specs.Changes.{loss_upto, IsChain, next_step, last_step, IsConcaveBoard, gain, loss, swap_gain, swap_loss, test_at, IsCheaper, IsCheapest, IsJustAbove};
+ghost use Rattle.rm_valuation_laws.specs.Order.{is_under, IsParent, IsLeafNode, IsRoot};
+ghost use Rattle.rm_market.specs.Tree.{is_inside};
 ghost use Rattle.rm_valuation_laws.specs.Offers.{ThreeKinds, IsInside, IsFull, EndsWalk, IsWalkAnswer, AtOneStep};
 
 // ---- any valuation
@@ -55,9 +55,9 @@ pub fn one_offer()
 
 /// How the outcomes of an offer compare: by worth, and at equal worth an addition wins, and a swap exactly where x stands before z.
 pub fn one_decision()
-    ensures addition { (v : Values) (H : List ℕ) (z x : ℕ) → IsSet H → IsIn z H → IsFalse (has x H) → IsIn z v.ties → IsTrue (v.feasible (with_one H x)) → v.worth (swapped H z x) ≤ℤ v.worth (with_one H x) → IsTrue (is_better v (with_one H x) (swapped H z x)) }
-    ensures swap { (v : Values) (H : List ℕ) (z x : ℕ) → IsIn z H → IsFalse (has x H) → IsTrue (v.feasible (swapped H z x)) → (v.worth H <ℤ v.worth (swapped H z x)) ⊎ ((v.worth (swapped H z x) ≡ v.worth H) × (place v.ties x < place v.ties z)) → IsTrue (is_better v (swapped H z x) H) }
-    ensures held { (v : Values) (H : List ℕ) (z x : ℕ) → IsIn z H → IsFalse (has x H) → IsTrue (v.feasible H) → (v.worth (swapped H z x) <ℤ v.worth H) ⊎ ((v.worth H ≡ v.worth (swapped H z x)) × (place v.ties z < place v.ties x)) → IsTrue (is_better v H (swapped H z x)) }
+    ensures addition { (v : Values) (H : List ℕ) (z x : ℕ) → IsSet H → IsIn z H → IsFalse (has x H) → IsIn z v.ties → IsTrue (v.feasible (with_one H x)) → v.worth (swapped H x z) ≤ℤ v.worth (with_one H x) → IsTrue (is_better v (with_one H x) (swapped H x z)) }
+    ensures swap { (v : Values) (H : List ℕ) (z x : ℕ) → IsIn z H → IsFalse (has x H) → IsTrue (v.feasible (swapped H x z)) → (v.worth H <ℤ v.worth (swapped H x z)) ⊎ ((v.worth (swapped H x z) ≡ v.worth H) × (place v.ties x < place v.ties z)) → IsTrue (is_better v (swapped H x z) H) }
+    ensures held { (v : Values) (H : List ℕ) (z x : ℕ) → IsIn z H → IsFalse (has x H) → IsTrue (v.feasible H) → (v.worth (swapped H x z) <ℤ v.worth H) ⊎ ((v.worth H ≡ v.worth (swapped H x z)) × (place v.ties z < place v.ties x)) → IsTrue (is_better v H (swapped H x z)) }
 {}
 
 // ---- boards
@@ -71,7 +71,7 @@ pub fn boards_are_m_natural_concave()
 pub fn changes_of_worth()
     ensures added { (b : Board) (S : List ℕ) (x : ℕ) → IsFalse (has x S) → IsTrue (is_feasible b (with_one S x)) → worth b (with_one S x) ≡ worth b S +ℤ gain b S x }
     ensures removed { (b : Board) (S : List ℕ) (z : ℕ) → IsSet S → IsIn z S → IsTrue (is_feasible b S) → worth b S ≡ worth b (without S z) +ℤ loss b S z }
-    ensures swapped { (b : Board) (H : List ℕ) (z x : ℕ) → IsSet H → IsIn z H → IsFalse (has x H) → IsTrue (is_feasible b H) → IsTrue (is_feasible b (swapped H z x)) → (worth b (swapped H z x) +ℤ swap_loss b H x z) ≡ (worth b H +ℤ swap_gain b H x z) }
+    ensures swapped { (b : Board) (H : List ℕ) (z x : ℕ) → IsSet H → IsIn z H → IsFalse (has x H) → IsTrue (is_feasible b H) → IsTrue (is_feasible b (swapped H x z)) → (worth b (swapped H x z) +ℤ swap_loss b H x z) ≡ (worth b H +ℤ swap_gain b H x z) }
 {}
 
 /// The gain and the loss of one contract are sums along its chain.
@@ -84,8 +84,8 @@ pub fn sums_along_chains()
 pub fn feasible_changes()
     ensures addition { (b : Board) (H : List ℕ) (x : ℕ) → IsTrue (is_feasible b H) → IsFalse (has x H) → ((k : ℕ) → k < length b.nodes → IsTrue (test_at b k x) → ¬ IsFull b H (node_at b k)) → IsTrue (is_feasible b (with_one H x)) }
     ensures no_addition { (b : Board) (H : List ℕ) (x k : ℕ) → IsFalse (has x H) → k < length b.nodes → IsTrue (test_at b k x) → IsFull b H (node_at b k) → IsFalse (is_feasible b (with_one H x)) }
-    ensures swap { (b : Board) (H : List ℕ) (z x : ℕ) → IsSet H → IsIn z H → IsFalse (has x H) → IsTrue (is_feasible b H) → ((k : ℕ) → k < length b.nodes → IsTrue (test_at b k x) → IsFull b H (node_at b k) → IsTrue (test_at b k z)) → IsTrue (is_feasible b (swapped H z x)) }
-    ensures no_swap { (b : Board) (H : List ℕ) (z x k : ℕ) → IsSet H → IsIn z H → IsFalse (has x H) → k < length b.nodes → IsTrue (test_at b k x) → IsFalse (test_at b k z) → IsFull b H (node_at b k) → IsFalse (is_feasible b (swapped H z x)) }
+    ensures swap { (b : Board) (H : List ℕ) (z x : ℕ) → IsSet H → IsIn z H → IsFalse (has x H) → IsTrue (is_feasible b H) → ((k : ℕ) → k < length b.nodes → IsTrue (test_at b k x) → IsFull b H (node_at b k) → IsTrue (test_at b k z)) → IsTrue (is_feasible b (swapped H x z)) }
+    ensures no_swap { (b : Board) (H : List ℕ) (z x k : ℕ) → IsSet H → IsIn z H → IsFalse (has x H) → k < length b.nodes → IsTrue (test_at b k x) → IsFalse (test_at b k z) → IsFull b H (node_at b k) → IsFalse (is_feasible b (swapped H x z)) }
 {}
 
 /// An offer needs no contract outside its innermost full node, or outside its outermost node where none is full; and of two contracts in the same nodes of the offer,
@@ -93,7 +93,7 @@ pub fn feasible_changes()
 pub fn one_walk()
     ensures ends { (b : Board) (H : List ℕ) (x k : ℕ) (D : List ℕ) → IsConcaveBoard b → IsSetBelow (length b.leaves) H → x < length b.leaves → IsFalse (has x H) → IsBest (values_of b) H H → k < length b.nodes → EndsWalk b H x k → IsWalkAnswer b H x k D → IsBest (values_of b) (with_one H x) D }
     ensures step { (b : Board) (x a z y : ℕ) (child : ℕ → Bool) → ((k : ℕ) → k < length b.nodes → IsTrue (test_at b k x) → IsInside (test_at b a) (test_at b k) ⊎ IsInside (test_at b k) child) → IsTrue (test_at b a z) → IsTrue (test_at b a y) → IsFalse (child z) → IsFalse (child y) → AtOneStep b x z y }
-    ensures first { (b : Board) (H : List ℕ) (x z y : ℕ) (D : List ℕ) → IsSet H → IsIn z H → IsIn y H → IsFalse (has x H) → IsIn z b.ties → IsTrue (is_feasible b H) → IsTrue (is_feasible b D) → AtOneStep b x z y → (swap_loss b H x z <ℤ swap_loss b H x y) ⊎ ((swap_loss b H x z ≡ swap_loss b H x y) × (place b.ties y ≤ place b.ties z)) → IsFalse (is_better (values_of b) (swapped H z x) D) → IsFalse (is_better (values_of b) (swapped H y x) D) }
+    ensures first { (b : Board) (H : List ℕ) (x z y : ℕ) (D : List ℕ) → IsSet H → IsIn z H → IsIn y H → IsFalse (has x H) → IsIn z b.ties → IsTrue (is_feasible b H) → IsTrue (is_feasible b D) → AtOneStep b x z y → (swap_loss b H x z <ℤ swap_loss b H x y) ⊎ ((swap_loss b H x z ≡ swap_loss b H x y) × (place b.ties y ≤ place b.ties z)) → IsFalse (is_better (values_of b) (swapped H x z) D) → IsFalse (is_better (values_of b) (swapped H x y) D) }
 {}
 
 /// The cheapest removal at a node is the cheapest of those at its children, at a leaf the last in tie order, and depends on what is held inside the node alone.
@@ -106,7 +106,7 @@ pub fn cheapest_removals()
 /// The order of the nodes gives what the walk and the kept removals rest on: the child of a node that has a contract is just below it; the steps of an offer's walk end at its leaf and at its root;
 /// and what a swap loses is the loss at the child of the walk's node that has the displaced contract.
 pub fn order_of_nodes()
-    ensures child { (b : Board) → IsConcaveBoard b → (a l y : ℕ) → a < length b.nodes → l < length b.nodes → IsTrue (test_at b l y) → IsTrue (is_inside b l a) → (e : ℕ) × (e < length b.nodes) × IsParent b e a × IsTrue (test_at b e y) }
+    ensures child { (b : Board) → IsConcaveBoard b → (a l y : ℕ) → a < length b.nodes → l < length b.nodes → IsTrue (test_at b l y) → IsTrue (is_inside (sets_of b) l a) → (e : ℕ) × (e < length b.nodes) × IsParent b e a × IsTrue (test_at b e y) }
     ensures just_above { (b : Board) → IsConcaveBoard b → (a d z : ℕ) → d < length b.nodes → IsParent b d a → IsTrue (test_at b d z) → IsJustAbove b (is_under b) a d z }
     ensures leaf { (b : Board) (a k : ℕ) → IsLeafNode b a → k < length b.nodes → is_under b k a ≡ (k == a) }
     ensures under { (b : Board) (k a : ℕ) → IsTrue (is_under b k a) → IsInside (test_at b k) (test_at b a) }
@@ -127,10 +127,4 @@ pub fn best_of_boards()
     ensures best { (doctors : ℕ) (b : Board) (X : List ℕ) → IsBoard doctors b → IsSetBelow (contract_count b) X → IsBest (values_of b) X (best_of (values_of b) X) }
     ensures only { (doctors : ℕ) (b : Board) (X S : List ℕ) → IsBoard doctors b → IsSetBelow (contract_count b) X → IsBest (values_of b) X S → best_of (values_of b) X ≡ S }
     ensures choice { (doctors : ℕ) (b : Board) → IsBoard doctors b → IsChoice (contract_count b) (best_of (values_of b)) }
-{}
-
-/// Two words of this crate say what words of rm_market say.
-pub fn same_words()
-    ensures inside { (b : Board) → InsideAlike b }
-    ensures swapped { (S : List ℕ) (x z : ℕ) → SwappedAlike S x z }
 {}
