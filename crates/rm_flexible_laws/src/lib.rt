@@ -10,9 +10,9 @@ ghost use Rattle.rm_market.specs.Market.{Market, IsMarket, wishes_of};
 ghost use Rattle.rm_market.specs.Laws.{AreWishes, RunsWell, PlacesSame, IsTruthful};
 ghost use Rattle.rm_matching_laws.specs.Results.{RunsClose};
 ghost use Rattle.rm_market_laws.specs.Results.{RunsWellIn, HasPlacement};
-ghost use Rattle.rm_market.specs.Flexible.{Region, Seat, flexible};
+ghost use Rattle.rm_market.specs.Flexible.{Region, Seat, flexible, seat_steps};
 ghost use Rattle.rm_flexible_laws.specs.Region.{IsRegion, IsRegions, IsPlace};
-ghost use Rattle.rm_flexible_laws.specs.Compiled.{IsCompiled, seat_steps};
+ghost use Rattle.rm_flexible_laws.specs.Compiled.{IsCompiled};
 ghost use Rattle.rm_flexible_laws.specs.Results.{KeptIsPicked, FlexibleIsPicked, PickedIsOne, KeptIsBest, FlexibleIsBest, BestIsPicked, StableIsCountForm, StableInIsCountForm, SameOptimal, FlexibleRunsEnd};
 
 /// Regions in which each hospital with a rank list stands once are lawful.
