@@ -1,0 +1,5 @@
+pub mod First
+mod Changes
+mod Over
+mod Swaps
+pub mod Verdict

@@ -1,0 +1,21 @@
+-- What is proved of verdicts, certificates, findings and the plain programs.
+use Rattle.std.specs.Prelude.{◌≡◌, ◌↔◌, ℕ, List, IsFalse}
+use Rattle.rm_sets.specs.Sets.{IsSet, IsSetBelow, IsWithin}
+use Rattle.rm_market.specs.Board.{Board, contract_count, is_feasible}
+use Rattle.rm_market.specs.Best.{values_of, IsBest}
+use Rattle.rm_market.specs.Certificate.{verdict_of}
+use Rattle.rm_market.specs.declared.Verdict.{Verdict}
+use Rattle.rm_market.specs.declared.Verdict.TheVariants as verdicts
+use Rattle.rm_verdict_laws.specs.Verdicts.{IsVerdict, IsLeastOver}
+
+-- the verdict on a chosen subset S of X is the one that says what holds
+abbrev pub VerdictsHold : Board → Type 0
+VerdictsHold b = (X S : List ℕ) (verdict : Verdict) → IsSetBelow (contract_count b) X → IsSet S → IsWithin S X → (verdict_of b X S ≡ verdict) ↔ IsVerdict b X S verdict
+
+-- it is `Best` exactly where S is the best subset of X
+abbrev pub BestWhereBest : Board → Type 0
+BestWhereBest b = (X S : List ℕ) → IsSetBelow (contract_count b) X → IsSet S → IsWithin S X → (verdict_of b X S ≡ verdicts.Best) ↔ IsBest (values_of b) X S
+
+-- some node is over its cap exactly where S isn't feasible
+abbrev pub OverWhereInfeasible : Board → List ℕ → Type 0
+OverWhereInfeasible b S = IsFalse (is_feasible b S) ↔ ((k : ℕ) × IsLeastOver b S k)
