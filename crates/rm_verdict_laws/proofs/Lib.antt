@@ -3,3 +3,7 @@ mod Changes
 mod Over
 mod Swaps
 pub mod Verdict
+mod Sorted
+mod Full
+mod BestSwap
+pub mod Certificate

@@ -1,12 +1,13 @@
 -- What is proved of verdicts, certificates, findings and the plain programs.
-use Rattle.std.specs.Prelude.{◌≡◌, ◌↔◌, ℕ, List, IsFalse}
-use Rattle.rm_sets.specs.Sets.{IsSet, IsSetBelow, IsWithin}
+use Rattle.std.specs.Prelude.{◌≡◌, ◌↔◌, ℕ, ◌<◌, List, IsTrue, IsFalse}
+use Rattle.rm_sets.specs.Sets.{IsIn, IsSet, IsSetBelow, IsWithin}
 use Rattle.rm_market.specs.Board.{Board, contract_count, is_feasible}
 use Rattle.rm_market.specs.Best.{values_of, IsBest}
-use Rattle.rm_market.specs.Certificate.{verdict_of}
+use Rattle.rm_market.specs.Certificate.{verdict_of, certificate}
 use Rattle.rm_market.specs.declared.Verdict.{Verdict}
 use Rattle.rm_market.specs.declared.Verdict.TheVariants as verdicts
 use Rattle.rm_verdict_laws.specs.Verdicts.{IsVerdict, IsLeastOver}
+use Rattle.rm_verdict_laws.specs.Rows.{AreRowsOf}
 
 -- the verdict on a chosen subset S of X is the one that says what holds
 abbrev pub VerdictsHold : Board → Type 0
@@ -19,3 +20,7 @@ BestWhereBest b = (X S : List ℕ) → IsSetBelow (contract_count b) X → IsSet
 -- some node is over its cap exactly where S isn't feasible
 abbrev pub OverWhereInfeasible : Board → List ℕ → Type 0
 OverWhereInfeasible b S = IsFalse (is_feasible b S) ↔ ((k : ℕ) × IsLeastOver b S k)
+
+-- each row says what holds, where S is feasible, as the best subset of the offers is
+abbrev pub RowsHold : Board → Type 0
+RowsHold b = (S offers : List ℕ) → IsSetBelow (contract_count b) S → IsTrue (is_feasible b S) → ((x : ℕ) → IsIn x offers → x < contract_count b) → AreRowsOf b S offers (certificate b offers S)
