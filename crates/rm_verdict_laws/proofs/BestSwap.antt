@@ -6,8 +6,8 @@ use Rattle.std.specs.Prelude.{◌≢◌, fold, filter, option_map}
 use Rattle.rm_sets.specs.Sets.{has, IsIn, IsSetBelow, without}
 use Rattle.rm_sets.proofs.Sets.{IsIn-here, IsIn-later, IsIn-cases, not_both}
 use Rattle.rm_sets.proofs.Members.{not_in_nil, not_in_without, IsIn-filter, IsIn-from_filter, IsSetBelow-with_one, IsSetBelow-without}
-use Rattle.rm_market.specs.Best.{Values, is_better, IsValuation}
-use Rattle.rm_market.specs.Certificate.{swapped, better_place, first_or_better, best_swap, swap_row}
+use Rattle.rm_market.specs.Best.{Values, is_better, swapped, IsValuation}
+use Rattle.rm_market.specs.Certificate.{better_place, first_or_better, best_swap, swap_row}
 use Rattle.rm_valuation_laws.specs.Scores.{score}
 use Rattle.rm_valuation_laws.proofs.Moves.{with_other, without_other, apart}
 use Rattle.rm_valuation_laws.proofs.Score.{cases_int, better_from_higher, higher_from_better, better_than_infeasible, scores_differ}

@@ -1,18 +1,17 @@
 -- The innermost full node of a contract, which there is exactly where the contract can't be added.
-use Rattle.std.proofs.Common.{◌≡◌, ℕ, ◌+◌, ◌<◌, ◌≤◌, List, [], length, Bool, true, false, Some, eqb, count_by, refl, sym, ◌∙◌, subst, inl, inr, ⊎_elim, arith, eqb-true, eq-eqb}
+use Rattle.std.proofs.Common.{◌≡◌, ℕ, ◌+◌, ◌<◌, ◌≤◌, List, length, Bool, true, false, Some, eqb, count_by, refl, sym, subst, ⊎_elim, arith, eqb-true, eq-eqb}
 use Rattle.std.specs.Prelude.{filter}
 use Rattle.std.proofs.lemmas.Bool.{ltb-true}
-use Rattle.std.proofs.lemmas.List.{get_or-map, length-map}
+use Rattle.std.proofs.lemmas.List.{length-map}
 use Rattle.rm_sets.specs.Sets.{has, IsIn, with_one}
 use Rattle.rm_sets.proofs.Sets.{not_both, below-all_below}
 use Rattle.rm_sets.proofs.Members.{IsIn-all_below, IsIn-filter, IsIn-from_filter}
-use Rattle.rm_market.specs.Board.{Board, leaf_of, cap_of, is_feasible}
+use Rattle.rm_market.specs.Board.{Board, leaf_of, cap_of, is_feasible, node_at, count_at, sets_of}
 use Rattle.rm_market.specs.Tree.{below, set_of, chain, is_inside}
-use Rattle.rm_market.specs.Certificate.{node_at, count_at, sets_of, innermost_full}
+use Rattle.rm_market.specs.Certificate.{innermost_full}
 use Rattle.rm_valuation_laws.specs.Changes.{IsConcaveBoard, in_node}
 use Rattle.rm_valuation_laws.proofs.Counts.{one, count-with_one}
-use Rattle.rm_valuation_laws.proofs.Order.{inside_trans, comparable}
-use Rattle.rm_valuation_laws.proofs.Words.{inside_alike}
+use Rattle.rm_valuation_laws.proofs.Order.{set_is, inside_trans, comparable}
 use Rattle.rm_verdict_laws.specs.Rows.{IsFullNode, IsInnermostFull}
 use Rattle.rm_verdict_laws.proofs.First.{none_passes}
 use Rattle.rm_verdict_laws.proofs.Over.{cap_kept, infeasible_over}
@@ -25,17 +24,10 @@ record IsNodeOf (b : Board) (x k : ℕ) : Type 0 where
   node : k < length b.nodes
   inside : IsIn (leaf_of b x) (node_at b k).leaves
 
-set_at : (b : Board) (k : ℕ) → k < length b.nodes → set_of (sets_of b) k ≡ (node_at b k).leaves
-set_at b k lt = get_or-map (λ n. n.leaves) b.nodes k (record { leaves = []; steps = [] }) [] lt
-
 nodes_in_order : (b : Board) (x : ℕ) → IsConcaveBoard b → IsOrderOf (IsNodeOf b x) (is_inside (sets_of b))
 nodes_in_order b x ok = record {
-  transitive = λ k l a pk pl pa t u.
-      inside_alike b k a pk.node pa.node ∙ inside_trans b k l a (sym (inside_alike b k l pk.node pl.node) ∙ t) (sym (inside_alike b l a pl.node pa.node) ∙ u);
-  total = λ k l pk pl. ⊎_elim
-      (λ e. inl e)
-      (λ rest. inr (⊎_elim (λ t. inl (inside_alike b k l pk.node pl.node ∙ t)) (λ u. inr (inside_alike b l k pl.node pk.node ∙ u)) rest))
-      (comparable b ok k l x pk.node pl.node pk.inside pl.inside);
+  transitive = λ k l a pk pl pa. inside_trans b k l a;
+  total = λ k l pk pl. comparable b ok k l x pk.node pl.node pk.inside pl.inside;
 }
 
 abbrev has_leaf : Board → ℕ → ℕ → Bool
@@ -51,13 +43,13 @@ node_from_member : (b : Board) (x k : ℕ) → IsIn k (nodes_of b x) → IsNodeO
 node_from_member b x k i =
     let parts = IsIn-from_filter (has_leaf b x) (below (length (sets_of b))) k i in
     let lt : k < length b.nodes = subst (λ n. k < n) (sets_count b) (below-all_below (length (sets_of b)) (λ j. true) k parts.0).0 in
-    record { node = lt; inside = subst (λ L. IsIn (leaf_of b x) L) (set_at b k lt) parts.1 }
+    record { node = lt; inside = subst (λ L. IsIn (leaf_of b x) L) (set_is b k) parts.1 }
 
 member_from_node : (b : Board) (x k : ℕ) → IsNodeOf b x k → IsIn k (nodes_of b x)
 member_from_node b x k h =
     IsIn-filter (has_leaf b x) (below (length (sets_of b))) k
     (IsIn-all_below (length (sets_of b)) (λ j. true) k (subst (λ n. k < n) (sym (sets_count b)) h.node) refl)
-    (subst (λ L. IsIn (leaf_of b x) L) (sym (set_at b k h.node)) h.inside)
+    (subst (λ L. IsIn (leaf_of b x) L) (sym (set_is b k)) h.inside)
 
 -- ---- the innermost full one
 

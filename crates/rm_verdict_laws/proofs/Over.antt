@@ -1,5 +1,5 @@
 -- A set is feasible exactly where no node is over its cap.
-use Rattle.std.proofs.Common.{◌≡◌, ℕ, ◌<◌, ◌≤◌, List, [], length, true, false, Some, None, IsFalse, refl, ⊎_elim}
+use Rattle.std.proofs.Common.{◌≡◌, ℕ, ◌<◌, ◌≤◌, List, length, true, false, Some, None, IsFalse, refl, ⊎_elim}
 use Rattle.std.proofs.lemmas.Bool.{cases_Bool, ltb-false, le-ltb}
 use Rattle.std.proofs.lemmas.List.Elements.{All-from_get_or}
 use Rattle.std.specs.Prelude.{◌↔◌}
@@ -7,18 +7,18 @@ use Rattle.rm_sets.specs.Sets.{IsIn}
 use Rattle.rm_sets.proofs.Sets.{not_both, below-all_below, IsSet-all_below}
 use Rattle.rm_sets.proofs.Members.{IsIn-all_below}
 use Rattle.rm_sets.proofs.Search.{cases_some, least_member}
-use Rattle.rm_market.specs.Board.{Board, count, cap_of, is_feasible}
+use Rattle.rm_market.specs.Board.{Board, count, cap_of, is_feasible, no_node, node_at, count_at}
 use Rattle.rm_market.specs.Tree.{below}
-use Rattle.rm_market.specs.Certificate.{node_at, count_at, over_cap}
+use Rattle.rm_market.specs.Certificate.{over_cap}
 use Rattle.rm_valuation_laws.proofs.LaminarExchange.{caps_from_feasible, feasible_from_caps}
 use Rattle.rm_verdict_laws.specs.Verdicts.{is_over, IsLeastOver}
 use Rattle.rm_verdict_laws.proofs.First.{none_passes, none_found, least_found, found_least}
 
 pub cap_kept : (b : Board) (S : List ℕ) → is_feasible b S ≡ true → (k : ℕ) → k < length b.nodes → count_at b S k ≤ cap_of (node_at b k)
-cap_kept b S f k lt = caps_from_feasible b S f k (record { leaves = []; steps = [] }) lt
+cap_kept b S f k lt = caps_from_feasible b S f k no_node lt
 
 pub feasible_from_kept : (b : Board) (S : List ℕ) → ((k : ℕ) → k < length b.nodes → count_at b S k ≤ cap_of (node_at b k)) → is_feasible b S ≡ true
-feasible_from_kept b S kept = feasible_from_caps b S (All-from_get_or (λ n. count b n.leaves S ≤ length n.steps) b.nodes (record { leaves = []; steps = [] }) kept)
+feasible_from_kept b S kept = feasible_from_caps b S (All-from_get_or (λ n. count b n.leaves S ≤ length n.steps) b.nodes no_node kept)
 
 none_over : (b : Board) (S : List ℕ) → is_feasible b S ≡ true → (k : ℕ) → IsIn k (below (length b.nodes)) → is_over b S k ≡ false
 none_over b S f k i = le-ltb (cap_of (node_at b k)) (count_at b S k) (cap_kept b S f k (below-all_below (length b.nodes) (λ x. true) k i).0)

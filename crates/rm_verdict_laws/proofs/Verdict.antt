@@ -6,8 +6,8 @@ use Rattle.rm_sets.specs.Sets.{has, IsIn, IsSet, IsSetBelow, IsWithin, with_one,
 use Rattle.rm_sets.proofs.Sets.{not_both, IsSet-minus}
 use Rattle.rm_sets.proofs.Members.{IsIn-minus, IsIn-from_minus, not_in_from}
 use Rattle.rm_market.specs.Board.{Board, IsBoard, contract_count}
-use Rattle.rm_market.specs.Best.{Values, values_of, is_better}
-use Rattle.rm_market.specs.Certificate.{over_cap, better_without, better_with, better_for, better_swap, verdict_of, swapped}
+use Rattle.rm_market.specs.Best.{Values, values_of, is_better, swapped}
+use Rattle.rm_market.specs.Certificate.{over_cap, better_without, better_with, better_for, better_swap, verdict_of}
 use Rattle.rm_market.specs.declared.Verdict.{Verdict}
 use Rattle.rm_market.specs.declared.Verdict.TheVariants as verdicts
 use Rattle.rm_valuation_laws.proofs.Market.{market_board_laws}

@@ -1,10 +1,9 @@
 -- What the rows of a certificate say.
 use Rattle.std.specs.Prelude.{◌≡◌, ◌≢◌, ◌⊎◌, ℕ, ◌<◌, true, false, List, [], ◌∷◌, length, ◌-ℤ◌, Option, Some, None, IsTrue, IsFalse}
 use Rattle.rm_sets.specs.Sets.{IsIn, with_one, without}
-use Rattle.rm_market.specs.Board.{Board, leaf_of, cap_of, is_feasible, worth}
-use Rattle.rm_market.specs.Best.{Values, values_of, is_better}
+use Rattle.rm_market.specs.Board.{Board, leaf_of, cap_of, is_feasible, worth, node_at, count_at, sets_of}
+use Rattle.rm_market.specs.Best.{Values, values_of, is_better, swapped}
 use Rattle.rm_market.specs.Tree.{is_inside}
-use Rattle.rm_market.specs.Certificate.{node_at, count_at, sets_of, swapped}
 use Rattle.rm_market.specs.declared.CertRow.{CertRow}
 use Rattle.rm_market.specs.declared.SwapRow.{SwapRow}
 
