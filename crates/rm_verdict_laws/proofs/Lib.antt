@@ -7,3 +7,5 @@ mod Sorted
 mod Full
 mod BestSwap
 pub mod Certificate
+mod Blocking
+pub mod Finding

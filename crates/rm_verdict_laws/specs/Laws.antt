@@ -3,11 +3,16 @@ use Rattle.std.specs.Prelude.{◌≡◌, ◌↔◌, ℕ, ◌<◌, List, IsTrue, 
 use Rattle.rm_sets.specs.Sets.{IsIn, IsSet, IsSetBelow, IsWithin}
 use Rattle.rm_market.specs.Board.{Board, contract_count, is_feasible}
 use Rattle.rm_market.specs.Best.{values_of, IsBest}
-use Rattle.rm_market.specs.Certificate.{verdict_of, certificate}
+use Rattle.rm_market.specs.Stable.{IsPlacement}
+use Rattle.rm_market.specs.Market.{Market, wishes_of, IsStableIn}
+use Rattle.rm_market.specs.Certificate.{verdict_of, certificate, finding_of}
+use Rattle.rm_market.specs.declared.Finding.{Finding}
+use Rattle.rm_market.specs.declared.Finding.TheVariants as findings
 use Rattle.rm_market.specs.declared.Verdict.{Verdict}
 use Rattle.rm_market.specs.declared.Verdict.TheVariants as verdicts
 use Rattle.rm_verdict_laws.specs.Verdicts.{IsVerdict, IsLeastOver}
 use Rattle.rm_verdict_laws.specs.Rows.{AreRowsOf}
+use Rattle.rm_verdict_laws.specs.Findings.{IsFinding}
 
 -- the verdict on a chosen subset S of X is the one that says what holds
 abbrev pub VerdictsHold : Board → Type 0
@@ -24,3 +29,11 @@ OverWhereInfeasible b S = IsFalse (is_feasible b S) ↔ ((k : ℕ) × IsLeastOve
 -- each row says what holds, where S is feasible, as the best subset of the offers is
 abbrev pub RowsHold : Board → Type 0
 RowsHold b = (S offers : List ℕ) → IsSetBelow (contract_count b) S → IsTrue (is_feasible b S) → ((x : ℕ) → IsIn x offers → x < contract_count b) → AreRowsOf b S offers (certificate b offers S)
+
+-- the finding on a placement is the one that says what holds
+abbrev pub FindingsHold : Market → Type 0
+FindingsHold m = (S : List ℕ) (finding : Finding) → IsPlacement (wishes_of m) S → (finding_of m.board (wishes_of m) S ≡ finding) ↔ IsFinding m S finding
+
+-- it is `Stable` exactly where the placement is stable
+abbrev pub StableWhereStable : Market → Type 0
+StableWhereStable m = (S : List ℕ) → IsPlacement (wishes_of m) S → (finding_of m.board (wishes_of m) S ≡ findings.Stable) ↔ IsStableIn m S

@@ -4,7 +4,8 @@
 
 ghost use Rattle.std.specs.Prelude.{ℕ, List};
 ghost use Rattle.rm_market.specs.Board.{Board, IsBoard};
-ghost use Rattle.rm_verdict_laws.specs.Laws.{VerdictsHold, BestWhereBest, OverWhereInfeasible, RowsHold};
+ghost use Rattle.rm_market.specs.Market.{Market, IsMarket};
+ghost use Rattle.rm_verdict_laws.specs.Laws.{VerdictsHold, BestWhereBest, OverWhereInfeasible, RowsHold, FindingsHold, StableWhereStable};
 
 // Each verdict holds of the choice, and no other one does: `Best` comes exactly where the choice is the best subset, and any other
 // verdict is the first single change that gives a better set, or the least node over its cap.
@@ -18,4 +19,11 @@ pub fn verdicts()
 // node that keeps it out, and the best swap for it.
 pub fn certificates()
     ensures { (doctors : ℕ) (b : Board) → IsBoard doctors b → RowsHold b }
+{}
+
+// Each finding holds of the placement, and no other one does: `Stable` comes exactly where the placement is stable, and any other
+// finding is the least node over its cap, the first removal that gives a better set, or the first contract that blocks.
+pub fn findings()
+    ensures hold { (m : Market) → IsMarket m → FindingsHold m }
+    ensures stable { (m : Market) → IsMarket m → StableWhereStable m }
 {}
