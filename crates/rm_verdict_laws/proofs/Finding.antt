@@ -49,7 +49,7 @@ at_stable m S e r s = rw (e, r, s) refl
 
 -- ---- the law
 
-placed_below : (m : Market) (S : List ℕ) → IsPlacement (wishes_of m) S → IsSetBelow (contract_count m.board) S
+pub placed_below : (m : Market) (S : List ℕ) → IsPlacement (wishes_of m) S → IsSetBelow (contract_count m.board) S
 placed_below m S p = subst (λ n. IsSetBelow n S) (owners_count m) p.set
 
 says : (m : Market) (S : List ℕ) → IsMarket m → IsPlacement (wishes_of m) S → IsFinding m S (finding_of m.board (wishes_of m) S)

@@ -9,3 +9,5 @@ mod BestSwap
 pub mod Certificate
 mod Blocking
 pub mod Finding
+mod Lists
+pub mod Plain

@@ -1,10 +1,11 @@
 -- What is proved of verdicts, certificates, findings and the plain programs.
 use Rattle.std.specs.Prelude.{◌≡◌, ◌↔◌, ℕ, ◌<◌, List, IsTrue, IsFalse}
+use Rattle.std.specs.List.{Contains}
 use Rattle.rm_sets.specs.Sets.{IsIn, IsSet, IsSetBelow, IsWithin}
 use Rattle.rm_market.specs.Board.{Board, contract_count, is_feasible}
 use Rattle.rm_market.specs.Best.{values_of, IsBest}
 use Rattle.rm_market.specs.Stable.{IsPlacement}
-use Rattle.rm_market.specs.Market.{Market, wishes_of, IsStableIn}
+use Rattle.rm_market.specs.Market.{Market, wishes_of, IsStableIn, IsOptimalIn, is_stable, stable_sets, optimal_sets}
 use Rattle.rm_market.specs.Certificate.{verdict_of, certificate, finding_of}
 use Rattle.rm_market.specs.declared.Finding.{Finding}
 use Rattle.rm_market.specs.declared.Finding.TheVariants as findings
@@ -37,3 +38,14 @@ FindingsHold m = (S : List ℕ) (finding : Finding) → IsPlacement (wishes_of m
 -- it is `Stable` exactly where the placement is stable
 abbrev pub StableWhereStable : Market → Type 0
 StableWhereStable m = (S : List ℕ) → IsPlacement (wishes_of m) S → (finding_of m.board (wishes_of m) S ≡ findings.Stable) ↔ IsStableIn m S
+
+-- the test of stability is passed by the stable sets of contracts alone
+abbrev pub StableTestDecides : Market → Type 0
+StableTestDecides m = (S : List ℕ) → IsSetBelow (contract_count m.board) S → IsTrue (is_stable m S) ↔ IsStableIn m S
+
+-- the plain programs list the stable sets and the optimal ones, and no other sets
+abbrev pub StableSetsAreAll : Market → Type 0
+StableSetsAreAll m = (S : List ℕ) → Contains (stable_sets m) S ↔ IsStableIn m S
+
+abbrev pub OptimalSetsAreAll : Market → Type 0
+OptimalSetsAreAll m = (S : List ℕ) → Contains (optimal_sets m) S ↔ IsOptimalIn m S
