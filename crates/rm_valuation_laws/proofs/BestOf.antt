@@ -16,15 +16,15 @@ use Rattle.rm_valuation_laws.proofs.Market.{market_board_laws}
 
 -- ---- the subsets of a set
 
-record IsPart (X T : List ℕ) : Type 0 where
-  ascending : IsSet T
-  within : IsWithin T X
+pub record IsPart (X T : List ℕ) : Type 0 where
+  pub ascending : IsSet T
+  pub within : IsWithin T X
 
-abbrev Each : (List ℕ → Type 0) → List (List ℕ) → Type 0
+abbrev pub Each : (List ℕ → Type 0) → List (List ℕ) → Type 0
 Each P [] = Unit {0}
 Each P (T ∷ L) = P T × Each P L
 
-abbrev Occurs : List ℕ → List (List ℕ) → Type 0
+abbrev pub Occurs : List ℕ → List (List ℕ) → Type 0
 Occurs B [] = ⊥
 Occurs B (T ∷ L) = (T ≡ B) ⊎ Occurs B L
 
@@ -52,7 +52,7 @@ occurs_map : (B : List ℕ) (x : ℕ) (L : List (List ℕ)) → Occurs B L → O
 occurs_map B x [] h = absurd h
 occurs_map B x (T ∷ L) h = ⊎_elim (λ e. inl (ap (λ S. x ∷ S) e)) (λ r. inr (occurs_map B x L r)) h
 
-each_part : (X : List ℕ) → IsSet X → Each (IsPart X) (subsets X)
+pub each_part : (X : List ℕ) → IsSet X → Each (IsPart X) (subsets X)
 each_part [] s = (record { ascending = IsSet-nil; within = within_nil [] }, tt)
 each_part (x ∷ X) s =
     let rest = each_part X (IsSet-tail x X s) in
@@ -65,7 +65,7 @@ each_part (x ∷ X) s =
     })
     rest)
 
-part_occurs : (X T : List ℕ) → IsSet X → IsSet T → IsWithin T X → Occurs T (subsets X)
+pub part_occurs : (X T : List ℕ) → IsSet X → IsSet T → IsWithin T X → Occurs T (subsets X)
 part_occurs [] [] sX sT w = inl refl
 part_occurs [] (t ∷ T) sX sT w = absurd (not_in_nil t (w t (IsIn-here t T)))
 part_occurs (x ∷ X) [] sX sT w = occurs_left [] (subsets X) (map (λ S. x ∷ S) (subsets X)) (part_occurs X [] (IsSet-tail x X sX) IsSet-nil (within_nil X))

@@ -30,7 +30,7 @@ subset_from A B f = empty_from (minus A B) (λ x h. let parts = IsIn-from_minus 
 
 -- ---- the order
 
-set_is : (b : Board) (a : ℕ) → set_of (sets_of b) a ≡ (node_at b a).leaves
+pub set_is : (b : Board) (a : ℕ) → set_of (sets_of b) a ≡ (node_at b a).leaves
 set_is b a = get_or-map (λ n. n.leaves) b.nodes a no_node
 
 inside_is : (b : Board) (k a : ℕ) → is_inside (sets_of b) k a ≡ (is_subset (node_at b k).leaves (node_at b a).leaves && (not (is_subset (node_at b a).leaves (node_at b k).leaves) || nat_lt k a))
