@@ -1,0 +1,174 @@
+-- Lists that are built item by item: none, one begun, one item more.
+use Rattle.std.proofs.Common.{eqb, ◌||◌, ◌≢◌, ◌≡◌, ◌∙◌, sym, ap, subst, refl, ℕ, zero, suc, ◌+◌, ◌-◌, ◌<◌, ◌≤◌, ◌^◌, List, [], ◌∷◌, ◌++◌, length, map, take, drop, set, get_or, replicate, Bool, true, false, nat_lt, Option, Some, None, IsSome, inl, inr, arith, length-append, length-drop, length-set, All}
+use mathlib.Core.Bool.{false≢true}
+use Rattle.std.specs.Bool.{◌==◌}
+use Rattle.std.specs.List.{IsDistinct, list_any, AllByRecursion}
+use Rattle.std.proofs.lemmas.Bool.{cases_lt, cases_eq}
+use Rattle.std.proofs.lemmas.Bool.Decides.{nat_tests}
+use Rattle.std.proofs.lemmas.Grind.{common_steps}
+use Rattle.std.proofs.lemmas.List.{take_more, length-take-le, length-map, get_or-map, take_all, drop_all, drop-append-le, map-set, set-get_or, get_or-replicate, get_or_past, get_or_read, get_or-set_same, get_or-set_other, length-replicate}
+use Rattle.std.proofs.lemmas.List.Elements.{All-take, All-drop, All-map, All-nil, All-replicate, All-set, All-weaker, All-push}
+use Rattle.std.proofs.lemmas.List.Folds.{list_any-append}
+use Rattle.rm_ranks.specs.declared.packed.Span.{Span}
+use Rattle.rm_ranks.specs.Packed.{part, lists_of}
+use Rattle.rm_ranks.specs.Builder.{IsBuilt, IsLast, AreBuilt}
+use Rattle.rm_ranks.proofs.Parts.{IsWithin, part-grown, lists-grown}
+use Rattle.rm_ranks.proofs.Searches.{both-false}
+
+abbrev pub no_span : Span
+no_span = record { start = 0; end = 0 }
+
+part-nil : (s : Span) → part {X = ℕ} [] s ≡ []
+part-nil s = rw (drop_all {X = ℕ} s.start [] (omega arith)) (take_all {A = ℕ} (s.end - s.start) [] (omega arith))
+
+get_or-same : (n i : ℕ) {X : Type 0} (x : X) → get_or (replicate n x) i x ≡ x
+get_or-same n i x = elim (cases_lt i n) [
+  | inl lt ↦ get_or-replicate n i x x lt
+  | inr ge ↦ get_or_past (replicate n x) i x (omega (arith, length-replicate n x))
+]
+
+pub no-lists : (n : ℕ) → lists_of [] (replicate n no_span) ≡ replicate n []
+no-lists zero = refl
+no-lists (suc n) = ap (λ (ls : List (List ℕ)). [] ∷ ls) (no-lists n)
+
+pub none-built : (n m : ℕ) → n < 2 ^ 32 → AreBuilt [] (replicate n no_span) (replicate n None) (replicate m 0) None
+unfolding IsDistinct
+none-built n m few = record {
+  few = omega (arith, length-replicate n no_span);
+  marked = length-replicate {A = Option ℕ} n None ∙ sym (length-replicate n no_span);
+  each = All-replicate (IsBuilt []) n no_span (record { forward = omega arith; within = omega arith; distinct = tt });
+  unbegun = λ i none. part-nil (get_or (replicate n no_span) i no_span);
+  ends = tt;
+  below = All-nil (λ x. x < length (replicate m 0));
+  places = λ x s lt.
+      let none : list_any (λ y. y == x) (drop s []) ≡ false = rw (drop_all {X = ℕ} s [] (omega arith)) refl in
+      rw (none, get_or-same m x {X = ℕ} 0) (grind (arith, nat_tests));
+}
+
+-- ---- a list is begun
+
+list-at : (items : List ℕ) (spans : List Span) (i : ℕ) (s : Span) → i < length spans → get_or (lists_of items spans) i [] ≡ part items (get_or spans i s)
+list-at items spans i s lt = get_or-map (part items) spans i s [] lt
+
+pub lists-begun :
+    (items : List ℕ) (spans : List Span) (marks : List (Option ℕ)) (last : List ℕ) (at : Option ℕ) → AreBuilt items spans marks last at →
+    (i n : ℕ) → i < length spans → get_or marks i None ≡ None → lists_of items (set spans i (record { start = n; end = n })) ≡ lists_of items spans
+lists-begun items spans marks last at built i n lt none =
+    let zero-is : n - n ≡ 0 = omega arith in
+    let e : part items (record { start = n; end = n }) ≡ [] = ap (λ (k : ℕ). take k (drop n items)) zero-is in
+    let was : get_or (lists_of items spans) i [] ≡ [] = list-at items spans i no_span lt ∙ built.unbegun i none in
+    map-set (part items) spans i (record { start = n; end = n }) ∙ ap (λ (l : List ℕ). set (lists_of items spans) i l) (e ∙ sym was) ∙ set-get_or (lists_of items spans) i []
+
+-- ---- one item more
+
+rec-push : (Q : ℕ → Type 0) (xs : List ℕ) (y : ℕ) → AllByRecursion Q xs → Q y → AllByRecursion Q (xs ++ y ∷ [])
+rec-push Q [] y all q = (q, tt)
+rec-push Q (x ∷ xs) y all q = (all.0, rec-push Q xs y all.1 q)
+
+distinct-push : (xs : List ℕ) (y : ℕ) → IsDistinct ◌==◌ xs → list_any (λ x. x == y) xs ≡ false → IsDistinct ◌==◌ (xs ++ y ∷ [])
+unfolding IsDistinct
+distinct-push [] y distinct none = (tt, tt)
+distinct-push (x ∷ xs) y distinct none =
+    let b = both-false (x == y) (list_any (λ z. z == y) xs) none in
+    (rec-push (λ z. (x == z) ≡ false) xs y distinct.0 b.0, distinct-push xs y distinct.1 b.1)
+
+-- an item stands after place s exactly where s is below one more than its last place
+places-push : (items last : List ℕ) (item n : ℕ) → n ≡ length items + 1 → item < length last →
+    ((x s : ℕ) → x < length last → list_any (λ y. y == x) (drop s items) ≡ nat_lt s (get_or last x 0)) →
+    (x s : ℕ) → x < length last → list_any (λ y. y == x) (drop s (items ++ item ∷ [])) ≡ nat_lt s (get_or (set last item n) x 0)
+places-push items last item n n-is within places x s lt = elim (cases_lt (length items) s) [
+  | inl past ↦
+      let now = drop_all s (items ++ item ∷ []) (omega (arith, length-append items (item ∷ []))) in
+      let was = drop_all s items (omega arith) in
+      let before : false ≡ nat_lt s (get_or last x 0) = rw was at (places x s lt) in
+      rw now (elim (cases_eq x item) [
+        | inl same ↦ rw (same, get_or-set_same last item n 0 within) (grind (arith, nat_tests))
+        | inr other ↦ rw (get_or-set_other last item x n 0 other) before
+      ])
+  | inr within_items ↦
+      rw (drop-append-le s items (item ∷ []) within_items, list_any-append (λ y. y == x) (drop s items) (item ∷ []), places x s lt) (elim (cases_eq x item) [
+        | inl same ↦ rw (same, get_or-set_same last item n 0 within) (grind (arith, nat_tests))
+        | inr other ↦ rw (get_or-set_other last item x n 0 other) (grind (arith, nat_tests))
+      ])
+]
+
+some-is : (o : Option ℕ) → IsSome o → o ≡ None → ⊥
+some-is o there none = false≢true (rw none at there)
+
+module _ (items : List ℕ) (spans : List Span) (marks : List (Option ℕ)) (last : List ℕ) (at : ℕ) (built : AreBuilt items spans marks last (Some at)) (s : Span) (here : s ≡ get_or spans at s) where
+  to-end : s.end ≡ length items
+  to-end = rw (← here) at (built.ends.1 s)
+
+  last-part : part items s ≡ drop s.start items
+  last-part = take_all (s.end - s.start) (drop s.start items) (omega (arith, length-drop s.start items, to-end))
+
+  pub last-is : get_or (lists_of items spans) at [] ≡ part items s
+  last-is = list-at items spans at s built.ends.0 ∙ ap (λ (t : Span). part items t) (sym here)
+
+  pub repeated-is : (item : ℕ) → item < length last → list_any (λ x. x == item) (get_or (lists_of items spans) at []) ≡ nat_lt s.start (get_or last item 0)
+  repeated-is item lt = rw (last-is, last-part) (built.places item s.start lt)
+
+  pub not-repeated : (item m : ℕ) → item < length last → m ≡ get_or last item m → m ≤ s.start → list_any (λ x. x == item) (get_or (lists_of items spans) at []) ≡ false
+  not-repeated item m lt is le = repeated-is item lt ∙ (let e = get_or_read last item m lt is 0 in grind (arith, nat_tests))
+
+  this-built : IsBuilt items s
+  this-built = rw (← here) at (built.each at s built.ends.0)
+
+  grown-part : (item n : ℕ) → n ≡ length items + 1 → part (items ++ item ∷ []) (record { start = s.start; end = n }) ≡ part items s ++ item ∷ []
+  grown-part item n n-is =
+      let le : s.start ≤ length items = omega (arith, this-built.forward, to-end) in
+      rw (last-part, drop-append-le s.start items (item ∷ []) le)
+      (take_all (n - s.start) (drop s.start items ++ item ∷ []) (omega (arith, length-append (drop s.start items) (item ∷ []), length-drop s.start items)))
+
+  each-within : All (IsWithin (length items)) spans
+  each-within = All-weaker (IsBuilt items) (IsWithin (length items)) (λ t b. record { forward = b.forward; within = b.within }) spans built.each
+
+  within-at : (i : ℕ) → IsWithin (length items) (get_or spans i no_span)
+  within-at i = elim (cases_lt i (length spans)) [
+    | inl lt ↦ each-within i no_span lt
+    | inr past ↦ rw (get_or_past spans i no_span past) (record { forward = omega arith; within = omega arith })
+  ]
+
+  pub lists-item : (item n : ℕ) → n ≡ length items + 1 →
+      lists_of (items ++ item ∷ []) (set spans at (record { start = s.start; end = n })) ≡ set (lists_of items spans) at (get_or (lists_of items spans) at [] ++ item ∷ [])
+  lists-item item n n-is =
+      map-set (part (items ++ item ∷ [])) spans at (record { start = s.start; end = n })
+      ∙ rw (lists-grown items (item ∷ []) spans each-within, grown-part item n n-is, ← last-is) refl
+
+  pub item-built : (item n : ℕ) → n ≡ length items + 1 → item < length last → list_any (λ x. x == item) (get_or (lists_of items spans) at []) ≡ false →
+      AreBuilt (items ++ item ∷ []) (set spans at (record { start = s.start; end = n })) marks (set last item n) (Some at)
+  item-built item n n-is lt new =
+      let span : Span = record { start = s.start; end = n } in
+      let longer = length-append items (item ∷ []) in
+      let all = λ (t : Span) (b : IsBuilt items t). let w : IsWithin (length items) t = record { forward = b.forward; within = b.within } in
+      let r : IsBuilt (items ++ item ∷ []) t = record { forward = b.forward; within = omega (arith, b.within, longer); distinct = rw (part-grown items (item ∷ []) t w) b.distinct } in r in
+      let this : IsBuilt (items ++ item ∷ []) span = record {
+        forward = omega (arith, this-built.forward, to-end);
+        within = omega (arith, longer);
+        distinct = rw (grown-part item n n-is) (distinct-push (part items s) item this-built.distinct (rw last-is at new));
+      } in
+      record {
+        few = omega (arith, built.few, length-set spans at span);
+        marked = omega (arith, built.marked, length-set spans at span);
+        each = All-set (IsBuilt (items ++ item ∷ [])) spans at span this (All-weaker (IsBuilt items) (IsBuilt (items ++ item ∷ [])) all spans built.each);
+        unbegun = λ i none. elim (cases_eq i at) [
+          | inl same ↦ absurd (some-is (get_or marks at None) built.ends.2 (rw same at none))
+          | inr other ↦ rw (get_or-set_other spans at i span no_span other, part-grown items (item ∷ []) (get_or spans i no_span) (within-at i)) (built.unbegun i none)
+        ];
+        ends = (omega (arith, built.ends.0, length-set spans at span), λ t. let long : n ≡ length (items ++ item ∷ []) = omega (arith, longer) in ap (λ (q : Span). q.end) (get_or-set_same spans at span t built.ends.0) ∙ long, built.ends.2);
+        below = rw (length-set last item n) (All-push (λ x. x < length last) items item built.below lt);
+        places = λ x p within. let lt-x : x < length last = rw (length-set last item n) at within in places-push items last item n n-is lt built.places x p lt-x;
+      }
+
+-- ---- finished
+
+pub lists-below : (items : List ℕ) (spans : List Span) (n : ℕ) → All (λ x. x < n) items → All (All (λ x. x < n)) (lists_of items spans)
+lists-below items spans n below =
+    All-map (All (λ x. x < n)) (part items) spans (λ k d lt. let s = get_or spans k d in All-take (λ x. x < n) (s.end - s.start) (drop s.start items) (All-drop (λ x. x < n) s.start items below))
+
+pub one-fits : (items : List ℕ) (spans : List Span) (lists : List (List ℕ)) (i : ℕ) → lists_of items spans ≡ take i lists → i < length lists → length lists < 2 ^ 32 → length spans + 1 < 2 ^ 32
+one-fits items spans lists i so-far lt few = omega (arith, length-map spans (part items), ap length so-far, length-take-le i lists (omega arith))
+
+pub one-finished : (items : List ℕ) (spans : List Span) (i : ℕ) (s : Span) → i < length spans → take (i + 1) (lists_of items spans) ≡ take i (lists_of items spans) ++ part items (get_or spans i s) ∷ []
+one-finished items spans i s lt =
+    take_more (lists_of items spans) i [] (omega (arith, length-map spans (part items))) ∙ ap (λ (l : List ℕ). take i (lists_of items spans) ++ l ∷ []) (list-at items spans i s lt)

@@ -1,0 +1,12 @@
+use Rattle.std.proofs.Common.{◌≡◌, ◌<◌, length, get_or, None, refl, sym, arith}
+use Rattle.std.proofs.lemmas.List.{length-map}
+use Rattle.rm_ranks.specs.Packed.{part}
+use Rattle.rm_ranks.proofs.Building.{lists-begun}
+use Rattle.rm_ranks.proofs.builder.ListsBuilder.row.Goals as goal
+
+pub returns : goal.returns
+returns c =
+    let within = rw (← c.self.view_is) at c.requires in
+    let lt : c.args.i < length c.self.inside.spans.items = omega (arith, length-map c.self.inside.spans.items (part c.self.inside.items.items)) in
+    let none : get_or c.self.inside.marks.items c.args.i None ≡ None = sym (rw c.in_default.is at c.index.ensures) in
+    rw (← c.self.view_is) (none, rw (lists-begun c.self.inside.items.items c.self.inside.spans.items _ _ _ c.self.invariant c.args.i c.len-end.result lt none) refl)

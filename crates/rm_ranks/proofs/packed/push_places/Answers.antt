@@ -1,0 +1,12 @@
+use Rattle.std.proofs.Common.{◌∙◌, arith}
+use Rattle.rm_ranks.proofs.Indexes.{few-distinct, placed-one, index-added}
+use Rattle.rm_ranks.proofs.packed.push_places.Goals as goal
+
+pub overflow_cast-place : goal.overflow_cast-place
+overflow_cast-place c = omega (arith, few-distinct c.args.list.now c.requires (λ k. omega (arith, c.type_inv.list k)))
+
+pub loop-place-preserved : goal.loop-place-preserved
+loop-place-preserved c = placed-one _ _ _ _ _ c.loop-place.invariant c.loop-place-test.true c.in_ok-push.ensures.items
+
+pub returns : goal.returns
+returns c = index-added _ _ _ _ _ _ _ _ c.deref_mut.ensures.value c.loop-place.places.ok.0 (c.len-start.ensures ∙ c.args.places.now.ok.0) c.loop-place.invariant c.loop-place-test.false c.sort_unstable.ensures.permutation c.sort_unstable.ensures.sorted

@@ -1,0 +1,118 @@
+// Lists that are built item by item.
+
+ghost use Rattle.std.specs.Prelude.{◌≡◌, ◌<◌, [], ℕ, length, replicate, All, None, IsSome, IfOk};
+ghost use Rattle.rm_ranks.specs.Built.{ListsTold};
+ghost use Rattle.rm_ranks.specs.Builder.{Begins, Pushes};
+
+use crate::lists::{Lists, NoMemory};
+use crate::packed::{Packed, Span};
+use std::alloc::Global;
+use std::marker::Model;
+
+/// Why a list was not begun, or an item not added.
+#[derive(Clone, Copy, Debug, PartialEq, Eq)]
+pub enum ListFault {
+    /// The list begun last holds the item.
+    Repeated,
+    /// The list was begun before, with this mark.
+    RowRepeated(u64),
+    /// All lists together hold as many items as they may.
+    TooMany,
+    /// Memory was wanting.
+    NoMemory,
+}
+
+/// Lists of distinct numbers that are built item by item, one list after the other in any order. A mark, such as the
+/// row of a file, is kept for each list that was begun. After a fault the builder is as before.
+#[derive(Drop)]
+pub struct ListsBuilder {
+    items: Vec<u32>,
+    spans: Vec<Span>,
+    marks: Vec<Option<u64>>,
+    last: Vec<usize>,
+    at: Option<u32>,
+    limit: u64,
+}
+
+impl Model for ListsBuilder {
+    ghost use Rattle.std.specs.Prelude.{length};
+    ghost use Rattle.rm_ranks.specs.Built.{ListsTold};
+    ghost use Rattle.rm_ranks.specs.Packed.{lists_of};
+    ghost use Rattle.rm_ranks.specs.Builder.{AreBuilt};
+
+    ghost Value = { ListsTold };
+
+    ghost view = { λ b. record { lists = lists_of b.items.items b.spans.items; marks = b.marks.items; at = b.at; held = length b.items.items; items = length b.last.items; limit = b.limit } };
+
+    ghost invariant = { λ b. AreBuilt b.items.items b.spans.items b.marks.items b.last.items b.at };
+}
+
+impl ListsBuilder {
+    /// So many empty lists, none of which is begun. Each item is below `items`, and the lists may hold `limit` items in all.
+    pub fn new(alloc: Global, lists: u32, items: u32, limit: u64) -> Result<ListsBuilder, NoMemory>
+        ensures { IfOk result (λ b. b ≡ record { lists = replicate lists []; marks = replicate lists None; at = None; held = 0; items = items; limit = limit }) }
+    {
+        Ok(ListsBuilder {
+            items: Vec::new(alloc),
+            spans: vec![in alloc; Span { start: 0, end: 0 }; lists as usize]?,
+            marks: vec![in alloc; None; lists as usize]?,
+            last: vec![in alloc; 0; items as usize]?,
+            at: None,
+            limit,
+        })
+    }
+
+    /// Begins list i, counted from 0. `RowRepeated` comes exactly where it was begun before, with its mark.
+    pub fn row(&mut self, i: u32, mark: u64) -> Result<(), ListFault>
+        requires { i < length self.old.lists }
+        ensures { Begins self.old i mark self.new result }
+    {
+        let list = i as usize;
+        if let Some(former) = self.marks[list] {
+            return Err(ListFault::RowRepeated(former));
+        }
+        let end = self.items.len();
+        self.spans[list] = Span { start: end, end };
+        self.marks[list] = Some(mark);
+        self.at = Some(i);
+        Ok(())
+    }
+
+    /// Adds an item to the list begun last. `Repeated` comes exactly where that list holds it, and else `TooMany` exactly
+    /// where all lists together hold as many items as they may.
+    pub fn push(&mut self, item: u32) -> Result<(), ListFault>
+        requires begun { IsSome self.old.at }
+        requires item { item < self.old.items }
+        ensures { Pushes self.old item self.new result }
+    {
+        let Some(at) = self.at else {
+            unreachable!();
+        };
+        let list = at as usize;
+        if self.last[item as usize] > self.spans[list].start {
+            return Err(ListFault::Repeated);
+        }
+        if self.items.len() as u64 >= self.limit {
+            return Err(ListFault::TooMany);
+        }
+        if self.items.push(item).is_err() {
+            return Err(ListFault::NoMemory);
+        }
+        let end = self.items.len();
+        self.spans[list].end = end;
+        self.last[item as usize] = end;
+        Ok(())
+    }
+
+    /// The lists as built.
+    pub fn finish(self, alloc: Global) -> Result<Lists, NoMemory>
+        ensures lists { IfOk result (λ lists. lists ≡ self.lists) }
+        ensures below { All (All (λ x. x < self.items)) self.lists }
+    {
+        let mut packed = Packed::new(alloc);
+        for span in &self.spans {
+            packed.push(&self.items[span.start..span.end])?;
+        }
+        Ok(Lists { packed })
+    }
+}

@@ -1,0 +1,37 @@
+//! Lists of numbers in one buffer, as rank lists and lists of choices, with the place of each item at hand.
+#![tactic(auto)]
+
+mod builder;
+mod lists;
+mod packed;
+
+pub use builder::{ListFault, ListsBuilder};
+pub use lists::{Lists, NoMemory};
+
+#[cfg(test)]
+mod tests {
+    use super::*;
+    use std::test::Fail;
+
+    #[test]
+    fn builds_and_finds(rt: HostRuntime) -> Result<(), Fail> {
+        let mut builder = ListsBuilder::new(rt.alloc(), 2, 3, 2)?;
+        assert!(rt; builder.row(0, 5) == Ok(()));
+        assert!(rt; builder.push(1) == Ok(()));
+        assert!(rt; builder.push(1) == Err(ListFault::Repeated));
+        assert!(rt; builder.row(0, 6) == Err(ListFault::RowRepeated(5)));
+        assert!(rt; builder.push(2) == Ok(()));
+        assert!(rt; builder.push(0) == Err(ListFault::TooMany));
+        assert!(rt; builder.push(2) == Err(ListFault::Repeated));
+        let lists = builder.finish(rt.alloc())?;
+        assert_eq!(rt; lists.list(0), [1, 2].as_slice());
+        assert_eq!(rt; lists.list(1), [].as_slice());
+        assert!(rt; lists.place(0, 2) == Some(1));
+        assert!(rt; lists.place(0, 0) == None);
+        assert!(rt; lists.len() == 2);
+        let other = lists.with(rt.alloc(), 1, &[0])?;
+        assert_eq!(rt; other.list(0), [1, 2].as_slice());
+        assert_eq!(rt; other.list(1), [0].as_slice());
+        Ok(())
+    }
+}

@@ -1,0 +1,84 @@
+// Finished lists.
+
+ghost use Rattle.std.specs.Prelude.{◌≡◌, ◌<◌, ◌==◌, ℕ, List, [], length, get_or, set, All, IfOk};
+ghost use Rattle.std.specs.List.{IsDistinct, position};
+ghost use Rattle.rm_ranks.specs.Packed.{IsIndexOf};
+
+use crate::packed::Packed;
+use std::alloc::{AllocError, Global};
+use std::marker::Model;
+
+/// Want of memory.
+pub type NoMemory = AllocError;
+
+/// Lists of distinct numbers, all in one buffer. Lists and places count from 0.
+#[derive(Drop)]
+pub struct Lists {
+    pub(crate) packed: Packed,
+}
+
+impl Model for Lists {
+    ghost use Rattle.std.specs.Prelude.{List, ℕ};
+    ghost use Rattle.rm_ranks.specs.Packed.{lists_of, ArePacked};
+
+    ghost Value = { List (List ℕ) };
+
+    ghost view = { λ l. lists_of l.packed.items.items l.packed.spans.items };
+
+    ghost invariant = { λ l. ArePacked l.packed.items.items l.packed.places.items l.packed.spans.items };
+}
+
+impl Lists {
+    /// List i, lent from the buffer.
+    pub fn list(&self, i: u32) -> &[u32]
+        requires { i < length self.now }
+        ensures { result.now ≡ get_or self.now i [] }
+    {
+        let span = self.packed.spans[i as usize];
+        &self.packed.items[span.start..span.end]
+    }
+
+    /// The place of item j in list i; None exactly where it isn't there.
+    pub fn place(&self, i: u32, j: u32) -> Option<u32>
+        requires { i < length self.now }
+        ensures { result ≡ position (λ x. x == j) (get_or self.now i []) }
+    {
+        let span = self.packed.spans[i as usize];
+        find_place(&self.packed.places[span.start..span.end], j)
+    }
+
+    /// The number of lists.
+    pub fn len(&self) -> u32
+        ensures len { result ≡ length self.now }
+        ensures distinct { All (IsDistinct ◌==◌) self.now }
+    {
+        self.packed.spans.len() as u32
+    }
+
+    /// A copy in which list i is replaced by one of distinct items, and no other list is.
+    pub fn with(&self, alloc: Global, i: u32, list: &[u32]) -> Result<Lists, NoMemory>
+        requires i { i < length self.now }
+        requires distinct { IsDistinct ◌==◌ list.now }
+        ensures { IfOk result (λ lists. lists ≡ set self.now i list.now) }
+    {
+        let mut packed = Packed::new(alloc);
+        for k in 0..self.len() {
+            if k == i {
+                packed.push(list)?;
+            } else {
+                packed.push(self.list(k))?;
+            }
+        }
+        Ok(Lists { packed })
+    }
+}
+
+// The place of an item, by the index of its list.
+fn find_place(places: &[(u32, u32)], item: u32) -> Option<u32>
+    ensures { (list : List ℕ) → IsIndexOf list places.now → IsDistinct ◌==◌ list → result ≡ position (λ x. x == item) list }
+{
+    match places.binary_search_by_key(&item, |p| p.0) {
+        Ok(at) => Some(places[at].1),
+        Err(_) => None,
+    }
+}

@@ -1,0 +1,67 @@
+// Lists of distinct numbers, one after the other in one buffer, each with its items in their order and their places.
+
+ghost use Rattle.std.specs.Prelude.{◌≡◌, ◌+◌, ◌<◌, ◌^◌, ◌==◌, [], ◌∷◌, ◌++◌, length, OnOk};
+ghost use Rattle.std.specs.List.{IsDistinct};
+ghost use Rattle.rm_ranks.specs.Packed.{ArePacked, AddsIndex, lists_of};
+
+use std::alloc::{AllocError, Global};
+
+// Where a list stands in a buffer.
+#[derive(Clone, Copy, Debug, PartialEq, Eq)]
+pub struct Span {
+    pub start: usize,
+    pub end: usize,
+}
+
+// The items of all lists; of each list its items by number, each with its place; and where each list stands in both.
+#[derive(Drop)]
+pub struct Packed {
+    pub items: Vec<u32>,
+    pub places: Vec<(u32, u32)>,
+    pub spans: Vec<Span>,
+}
+
+impl Packed {
+    // No list.
+    pub fn new(alloc: Global) -> Packed
+        ensures packed { ArePacked result.items.items result.places.items result.spans.items }
+        ensures lists { lists_of result.items.items result.spans.items ≡ [] }
+    {
+        Packed {
+            items: Vec::new(alloc),
+            places: Vec::new(alloc),
+            spans: Vec::new(alloc),
+        }
+    }
+
+    // Adds a list as the last.
+    pub fn push(&mut self, list: &[u32]) -> Result<(), AllocError>
+        requires packed { ArePacked self.old.items.items self.old.places.items self.old.spans.items }
+        requires distinct { IsDistinct ◌==◌ list.now }
+        requires few { length self.old.spans.items + 1 < 2 ^ 32 }
+        ensures packed { OnOk result (ArePacked self.new.items.items self.new.places.items self.new.spans.items) }
+        ensures lists { OnOk result (lists_of self.new.items.items self.new.spans.items ≡ lists_of self.old.items.items self.old.spans.items ++ list.now ∷ []) }
+    {
+        let start = self.items.len();
+        self.items.extend_from_slice(list)?;
+        push_places(&mut self.places, list)?;
+        self.spans.push(Span {
+            start,
+            end: self.items.len(),
+        })?;
+        Ok(())
+    }
+}
+
+// Adds the items of a list in their order, each with its place.
+fn push_places(places: &mut Vec<(u32, u32)>, list: &[u32]) -> Result<(), AllocError>
+    requires { IsDistinct ◌==◌ list.now }
+    ensures { OnOk result (AddsIndex list.now places.old.items places.new.items) }
+{
+    let start = places.len();
+    for place in 0..list.len() {
+        places.push((list[place], place as u32))?;
+    }
+    places[start..].sort_unstable();
+    Ok(())
+}
