@@ -86,7 +86,7 @@ module _ (doctors : ℕ) (b : Board) (regions : List Region) (board : IsBoard do
   laws = market_board_laws doctors b board
 
   pub before : (x y : ℕ) → x < y → y < contract_count b → hospital_of b x ≡ hospital_of b y → place b.ties x < place b.ties y
-  before x y lt ly e = place_from_before x y b.ties board.ties_once (board.ties_agree x y lt ly e)
+  before x y lt ly e = place_from_before x y b.ties board.ties.once (board.ties.agrees x y lt ly e)
 
   -- ---- worths
 

@@ -1,6 +1,5 @@
 -- The board of regions: a node for each hospital, with the worths of its seats, and nodes for the regions' caps.
-use Rattle.std.specs.Prelude.{◌≡◌, ◌⊎◌, ℕ, ◌+◌, ◌-◌, ◌*◌, ◌<◌, ◌==◌, nat_le, max, List, map, length, fold, replicate, sum_by, ℤ, pos, ◌-ℤ◌, if◌then◌else◌}
-use Rattle.std.specs.List.{range_with_len}
+use Rattle.std.specs.Prelude.{◌≡◌, ◌⊎◌, ℕ, ◌+◌, ◌<◌, ◌==◌, List, length, replicate, sum_by, pos}
 use Rattle.rm_market.specs.Board.{Board, Node, contract_count, hospital_of, node_at}
 use Rattle.rm_market.specs.Flexible.{Region, seat_steps}
 use Rattle.rm_valuation_laws.specs.Changes.{in_node}

@@ -10,7 +10,7 @@ pub concave_board : (doctors : ℕ) (b : Board) → IsBoard doctors b → IsConc
 concave_board doctors b ok = record {
   laminar = ok.laminar;
   concave = ok.concave;
-  ties_all = λ x. subst (λ n. IsIn x b.ties ↔ (x < n)) (sym ok.leaves) (ok.ties_all x);
+  ties_all = λ x. subst (λ n. IsIn x b.ties ↔ (x < n)) (sym ok.leaves) (ok.ties.all x);
 }
 
 pub market_board_laws : (doctors : ℕ) (b : Board) → IsBoard doctors b → IsValuation (contract_count b) (values_of b)

@@ -1,10 +1,10 @@
 -- The order of a board's nodes, and what it gives to the walk of an offer and to the kept removals.
-use Rattle.std.proofs.Common.{◌≡◌, ◌⊎◌, ℕ, zero, suc, ◌<◌, ◌≤◌, Bool, true, false, not, ◌&&◌, ◌||◌, List, [], length, eqb, nat_lt, refl, sym, ap, ap₂, ◌∙◌, subst, inl, inr, ⊎_elim, arith, eq-eqb, eqb-true, IsFalse}
+use Rattle.std.proofs.Common.{◌≡◌, ◌⊎◌, ℕ, zero, suc, ◌<◌, ◌≤◌, Bool, true, false, not, ◌&&◌, ◌||◌, List, length, eqb, nat_lt, refl, sym, ap, ap₂, ◌∙◌, subst, inl, inr, ⊎_elim, arith, eq-eqb, eqb-true, IsFalse}
 use Rattle.std.proofs.lemmas.Bool.{cases_eq, cases_Bool, cases_order, and_parts, and_from, and_cases, or_cases, or_left, or_right, not-true, not-false, not_from_true, not_from_false, lt-ltb, ltb-true, false_from_ne_true}
 use Rattle.std.proofs.Math.ListN.{get_or-map}
 use Rattle.rm_sets.specs.Sets.{has, IsIn, common, minus}
 use Rattle.rm_sets.proofs.Sets.{not_both, cases_has, same_tests}
-use Rattle.rm_sets.proofs.Members.{IsIn-common, IsIn-minus, IsIn-from_minus, not_in_nil, IsIn-get_or}
+use Rattle.rm_sets.proofs.Members.{IsIn-common, IsIn-minus, IsIn-from_minus, IsIn-get_or}
 use Rattle.rm_market.specs.Board.{Board, leaf_of, is_empty, crosses, node_at, no_node, sets_of}
 use Rattle.rm_valuation_laws.specs.Changes.{IsConcaveBoard, test_at, swap_loss, loss_upto, IsJustAbove}
 use Rattle.rm_valuation_laws.specs.Offers.{IsInside}

@@ -2,10 +2,10 @@
 use Rattle.std.proofs.Common.{◌≡◌, ℕ, zero, suc, ◌<◌, List, [], ◌∷◌, Bool, true, false, ◌||◌, length, map, get_or, eqb, ℤ, pos, ◌+ℤ◌, refl, sym, ap, ◌∙◌, subst, ⊎_elim, arith, eqb-true, eq-eqb, ne_eqb}
 use Rattle.std.proofs.lemmas.Int.{ints}
 use Rattle.std.proofs.lemmas.Bool.{cases_eq}
-use Rattle.rm_sets.specs.Sets.{has, IsIn}
+use Rattle.rm_sets.specs.Sets.{has, IsIn, IsOnce}
 use Rattle.rm_sets.proofs.Sets.{not_both, IsIn-here, IsIn-later}
 use Rattle.rm_market.specs.Board.{int_sum}
-use Rattle.rm_valuation_laws.specs.Changes.{IsOnce, on, sum_upto}
+use Rattle.rm_valuation_laws.specs.Changes.{on, sum_upto}
 
 pub sum_upto_same : (m : ℕ) (g h : ℕ → ℤ) → ((k : ℕ) → k < m → g k ≡ h k) → sum_upto m g ≡ sum_upto m h
 sum_upto_same zero g h e = refl

@@ -1,6 +1,6 @@
 -- Boards whose worth is a valuation, and what single changes do to it.
-use Rattle.std.specs.Prelude.{◌∷◌, List, Bool, [], false, ◌≡◌, ◌↔◌, ℕ, zero, suc, ◌-◌, ◌<◌, ◌≤◌, ◌<ℤ◌, true, ◌&&◌, ◌||◌, not, ◌==◌, map, length, ℤ, pos, ◌+ℤ◌, IsTrue, IsFalse, slice_index_or, All, AllPairs}
-use Rattle.rm_sets.specs.Sets.{has, IsIn}
+use Rattle.std.specs.Prelude.{List, Bool, false, ◌≡◌, ◌↔◌, ℕ, zero, suc, ◌-◌, ◌<◌, ◌≤◌, ◌<ℤ◌, true, ◌&&◌, ◌||◌, not, ◌==◌, map, length, ℤ, pos, ◌+ℤ◌, IsTrue, IsFalse, slice_index_or, All, AllPairs}
+use Rattle.rm_sets.specs.Sets.{has, IsIn, IsOnce}
 use Rattle.rm_market.specs.Board.{Node, Board, node_at, leaf_of, count, int_sum, crosses, IsFalling}
 use Rattle.rm_valuation_laws.specs.Scores.{place}
 
@@ -45,11 +45,6 @@ abbrev pub test_at : Board → ℕ → ℕ → Bool
 test_at b k = in_node b (node_at b k)
 
 -- ---- chains: the different numbers of the nodes that have x
-
--- each number of the list stands in it once
-abbrev pub IsOnce : List ℕ → Type 0
-IsOnce [] = Unit {0}
-IsOnce (x ∷ xs) = (has x xs ≡ false) × IsOnce xs
 
 pub record IsChain (b : Board) (x : ℕ) (chain : List ℕ) : Type 0 where
   pub once : IsOnce chain

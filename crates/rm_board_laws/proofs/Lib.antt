@@ -1,0 +1,4 @@
+pub mod Contracts
+pub mod Searches
+pub mod TieOrders
+pub mod ListedOrder
