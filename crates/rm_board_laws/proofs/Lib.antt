@@ -2,3 +2,4 @@ pub mod Contracts
 pub mod Searches
 pub mod TieOrders
 pub mod ListedOrder
+pub mod HospitalBoards

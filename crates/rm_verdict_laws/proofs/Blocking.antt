@@ -3,12 +3,11 @@ use Rattle.std.proofs.Common.{◌≡◌, ℕ, ◌<◌, List, length, Bool, true,
 use Rattle.std.proofs.lemmas.Bool.{cases_Bool, and_parts, and_from, or_parts, or_cases, not-true}
 use Rattle.std.proofs.lemmas.List.{length-map}
 use Rattle.std.specs.Option.{is_some}
-use Rattle.rm_sets.specs.Sets.{has, IsIn, IsSet, IsSetBelow, with_one}
+use Rattle.rm_sets.specs.Sets.{has, IsIn, IsSet, IsSetBelow, with_one, below}
 use Rattle.rm_sets.proofs.Sets.{not_both, below-all_below, IsSet-all_below, IsIn-with_one_cases}
 use Rattle.rm_sets.proofs.Members.{IsIn-all_below, IsIn-with_one_new, IsSetBelow-with_one, within-with_one}
 use Rattle.rm_market.specs.Board.{contract_count}
 use Rattle.rm_market.specs.Best.{Values, values_of, is_better, swapped, IsBest, IsValuation}
-use Rattle.rm_market.specs.Tree.{below}
 use Rattle.rm_market.specs.Stable.{Wishes, wants}
 use Rattle.rm_market.specs.Market.{Market, IsMarket, wishes_of, Best}
 use Rattle.rm_market.specs.Certificate.{better_for, blocking}

@@ -3,11 +3,11 @@ use Rattle.std.proofs.Common.{◌≡◌, ℕ, ◌+◌, ◌<◌, ◌≤◌, List,
 use Rattle.std.specs.Prelude.{filter}
 use Rattle.std.proofs.lemmas.Bool.{ltb-true}
 use Rattle.std.proofs.lemmas.List.{length-map}
-use Rattle.rm_sets.specs.Sets.{has, IsIn, with_one}
+use Rattle.rm_sets.specs.Sets.{has, IsIn, with_one, below}
 use Rattle.rm_sets.proofs.Sets.{not_both, below-all_below}
 use Rattle.rm_sets.proofs.Members.{IsIn-all_below, IsIn-filter, IsIn-from_filter}
 use Rattle.rm_market.specs.Board.{Board, leaf_of, cap_of, is_feasible, node_at, count_at, sets_of}
-use Rattle.rm_market.specs.Tree.{below, set_of, chain, is_inside}
+use Rattle.rm_market.specs.Tree.{set_of, chain, is_inside}
 use Rattle.rm_market.specs.Certificate.{innermost_full}
 use Rattle.rm_valuation_laws.specs.Changes.{IsConcaveBoard, in_node}
 use Rattle.rm_valuation_laws.proofs.Counts.{one, count-with_one}

@@ -3,12 +3,11 @@ use Rattle.std.proofs.Common.{◌≡◌, ℕ, ◌<◌, ◌≤◌, List, length, 
 use Rattle.std.proofs.lemmas.Bool.{cases_Bool, ltb-false, le-ltb}
 use Rattle.std.proofs.lemmas.List.Elements.{All-from_get_or}
 use Rattle.std.specs.Prelude.{◌↔◌}
-use Rattle.rm_sets.specs.Sets.{IsIn}
+use Rattle.rm_sets.specs.Sets.{IsIn, below}
 use Rattle.rm_sets.proofs.Sets.{not_both, below-all_below, IsSet-all_below}
 use Rattle.rm_sets.proofs.Members.{IsIn-all_below}
 use Rattle.rm_sets.proofs.Search.{cases_some, least_member}
 use Rattle.rm_market.specs.Board.{Board, count, cap_of, is_feasible, no_node, node_at, count_at}
-use Rattle.rm_market.specs.Tree.{below}
 use Rattle.rm_market.specs.Certificate.{over_cap}
 use Rattle.rm_valuation_laws.proofs.LaminarExchange.{caps_from_feasible, feasible_from_caps}
 use Rattle.rm_verdict_laws.specs.Verdicts.{is_over, IsLeastOver}

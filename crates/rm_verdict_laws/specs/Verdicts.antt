@@ -1,9 +1,8 @@
 -- What each verdict on a choice says.
 use Rattle.std.specs.Prelude.{◌≡◌, ◌⊎◌, ℕ, ◌<◌, ◌≤◌, Bool, List, length, IsTrue, IsFalse, nat_lt}
-use Rattle.rm_sets.specs.Sets.{IsIn, IsLeast, with_one, without, minus}
+use Rattle.rm_sets.specs.Sets.{IsIn, IsLeast, with_one, without, minus, below}
 use Rattle.rm_market.specs.Board.{Board, cap_of, is_feasible, node_at, count_at}
 use Rattle.rm_market.specs.Best.{Values, values_of, is_better, swapped, IsBest}
-use Rattle.rm_market.specs.Tree.{below}
 use Rattle.rm_market.specs.declared.Verdict.{Verdict}
 use Rattle.rm_market.specs.declared.Verdict.TheVariants as verdicts
 
