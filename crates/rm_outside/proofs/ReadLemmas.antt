@@ -1,5 +1,5 @@
 -- A reader's bytes, of which one more was asked for than are wanted.
-use Rattle.std.proofs.Common.{◌≡◌, ◌+◌, ◌-◌, ◌^◌, ◌<◌, ◌≤◌, ◌∙◌, ℕ, min, List, [], ◌++◌, length, take, Some, None, Option, option_map, sym, ap, arith, IfSome}
+use Rattle.std.proofs.Common.{◌≡◌, ◌+◌, ◌<◌, ◌≤◌, ◌∙◌, ℕ, List, length, take, Some, None, Option, option_map, sym, ap, arith, IfSome}
 use Rattle.std.proofs.lemmas.List.{length-take, take_all}
 
 -- where fewer came, they are all

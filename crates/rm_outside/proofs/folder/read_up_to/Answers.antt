@@ -1,4 +1,4 @@
-use Rattle.std.proofs.Common.{◌≡◌, ◌+◌, ◌<◌, ◌≤◌, length, arith}
+use Rattle.std.proofs.Common.{◌+◌, ◌<◌, ◌≤◌, length, arith}
 use Rattle.rm_outside.proofs.ReadLemmas.{whole}
 use Rattle.rm_outside.proofs.folder.read_up_to.Goals as goal
 
