@@ -3,3 +3,4 @@ pub mod Searches
 pub mod TieOrders
 pub mod ListedOrder
 pub mod HospitalBoards
+pub mod Groups

@@ -1,1 +1,2 @@
 pub mod HospitalBoards
+pub mod Groups

@@ -5,6 +5,7 @@ ghost use Rattle.std.specs.Prelude.{◌≡◌, ℕ, List, None};
 ghost use Rattle.rm_base.specs.declared.ListedPair.{ListedPair};
 ghost use Rattle.rm_market.specs.Board.{IsTieOrder};
 ghost use Rattle.rm_market.specs.Ties.{by_hospital, by_rank, listed_order, listed_fault};
+ghost use Rattle.rm_board_laws.specs.Groups.{AcceptedGroups};
 ghost use Rattle.rm_board_laws.specs.HospitalBoards.{HospitalsMakeBoards, PlainMarkets};
 
 /// The orders by hospital and by rank, of any rank lists, and each listed order without a fault are tie orders.
@@ -19,4 +20,9 @@ pub fn tie_orders()
 pub fn boards_of_hospitals()
     ensures board { HospitalsMakeBoards }
     ensures plain { PlainMarkets }
+{}
+
+/// Groups have no fault exactly where they make a tree: none is empty, any two are nested or apart, and no hospital stands in too many.
+pub fn groups_of_a_tree()
+    ensures { (groups : List (List ℕ)) → AcceptedGroups groups }
 {}
