@@ -1,11 +1,11 @@
 -- What an offer did, and the test for closed states.
-use Rattle.std.proofs.Common.{◌≡◌, ◌↔◌, ℕ, ◌<◌, List, [], ◌∷◌, Bool, true, false, not, ◌⊎◌, length, refl, sym, ap, ◌∙◌, subst, ⊎_elim, Option, Some, None, find, is_none, true≢false}
-use Rattle.std.proofs.lemmas.Bool.{cases_eq, and_from, and_parts, not-true, not-false}
-use Rattle.std.specs.List.{list_all}
+use Rattle.std.proofs.Common.{◌≡◌, ◌↔◌, ℕ, ◌<◌, List, Bool, true, false, not, ◌⊎◌, length, refl, sym, ap, ◌∙◌, subst, ⊎_elim, Option, Some, None, find, is_none, true≢false}
+use Rattle.std.proofs.lemmas.Bool.{cases_eq, not-true, not-false}
 use Rattle.std.specs.Prelude.{IsTrue, if◌then◌else◌}
 use Rattle.rm_sets.specs.Sets.{has, IsIn, IsSetBelow, with_one, without, all_below}
-use Rattle.rm_sets.proofs.Sets.{IsIn-here, IsIn-later, IsIn-cases, not_both}
-use Rattle.rm_sets.proofs.Members.{not_in_nil, IsIn-with_one_old, IsIn-with_one_new, IsIn-without, not_in_without}
+use Rattle.rm_sets.proofs.Sets.{not_both}
+use Rattle.rm_sets.proofs.Members.{IsIn-with_one_old, IsIn-with_one_new, IsIn-without, not_in_without}
+use Rattle.rm_sets.proofs.Search.{from_list_all, into_list_all}
 use Rattle.rm_market.specs.Best.{IsChoice}
 use Rattle.rm_market.specs.Stable.{Wishes}
 use Rattle.rm_market.specs.Machine.{next_offer, IsClosed, is_closed, IsOutcome, outcome_from, outcome_of}
@@ -65,16 +65,6 @@ outcome_is n chosen H x c h lt own fresh =
         h
 
 -- ---- closed states
-
-from_list_all : (p : ℕ → Bool) (L : List ℕ) → list_all p L ≡ true → (x : ℕ) → IsIn x L → p x ≡ true
-from_list_all p [] e x i = absurd (not_in_nil x i)
-from_list_all p (y ∷ L) e x i =
-    let both = and_parts (p y) (list_all p L) e in
-    ⊎_elim (λ same. ap p same ∙ both.0) (λ later. from_list_all p L both.1 x later) (IsIn-cases x y L i)
-
-into_list_all : (p : ℕ → Bool) (L : List ℕ) → ((x : ℕ) → IsIn x L → p x ≡ true) → list_all p L ≡ true
-into_list_all p [] f = refl
-into_list_all p (y ∷ L) f = and_from (p y) (list_all p L) (f y (IsIn-here y L)) (into_list_all p L (λ x i. f x (IsIn-later x y L i)))
 
 from_is_none : (o : Option ℕ) → is_none o ≡ true → o ≡ None
 from_is_none None e = refl
