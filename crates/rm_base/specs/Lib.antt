@@ -1,3 +1,5 @@
 pub mod Checks
+pub mod Codes
 pub mod Names
+pub mod Reading
 pub mod Text

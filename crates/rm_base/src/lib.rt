@@ -1,12 +1,17 @@
-//! Names in the order of their first appearance, each with its number.
+//! Names with their numbers, places of doctors, and refusals.
 #![tactic(auto)]
 
 ghost use Rattle.std.specs.Prelude.{◌≡◌, ◌<◌, ◌+◌, ℕ, List, [], ◌∷◌, ◌++◌, length, map, string_bytes, slice_get, Some, None};
 ghost use Rattle.rm_base.specs.Names.{place_of, Adds};
 
+pub mod codes;
+
 use indexmap::IndexSet;
-use std::alloc::Global;
+use std::alloc::{AllocError, Global};
 use std::marker::Model;
+
+/// Want of memory, where it is the only refusal.
+pub type NoMemory = AllocError;
 
 /// One refusal: its code, the file it speaks of, and two numbers whose meaning the code gives.
 #[derive(Clone, Copy, Debug, PartialEq, Eq)]
@@ -15,6 +20,13 @@ pub struct Refusal {
     pub file: u8,
     pub a: u64,
     pub b: u64,
+}
+
+/// Why reading gave nothing: its first refusal, or want of memory, which may come at any time.
+#[derive(Clone, Copy, Debug, PartialEq, Eq)]
+pub enum ReadFault {
+    Refused(Refusal),
+    NoMemory,
 }
 
 /// One element of a listed tie order: a doctor and a hospital, each by number. A name that isn't known is None.
