@@ -1,8 +1,7 @@
 -- Refusals compute from the names of their numbers.
-use Rattle.std.proofs.Common.{◌≡◌, ◌∷◌, [], Some, None, Option, refl, codes, false, true}
-use Rattle.rm_base.specs.Checks.{check, checks_of, first_of}
+use Rattle.std.proofs.Common.{◌≡◌, ◌∷◌, [], Some, refl, false, true}
+use Rattle.rm_base.specs.Checks.{check, first_of}
 use Rattle.rm_base.specs.Codes.{refuse}
-use Rattle.rm_base.specs.declared.Refusal.{Refusal}
 use Rattle.rm_base.specs.declared.codes.TheConstants.{FILE_MISSING, FILE_TOO_LONG, RANKS_FILE, TOO_MANY, HOSPITALS_FILE, HOSPITALS_LIMIT, MOST_HOSPITALS, NOT_BUILT, POLICY_FILE}
 
 missing_ranks : refuse FILE_MISSING RANKS_FILE 0 0 ≡ refuse 10 3 0 0

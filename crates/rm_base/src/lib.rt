@@ -1,8 +1,8 @@
 //! Names with their numbers, places of doctors, and refusals.
 #![tactic(auto)]
 
-ghost use Rattle.std.specs.Prelude.{◌≡◌, ◌<◌, ◌+◌, ℕ, List, [], ◌∷◌, ◌++◌, length, map, string_bytes, slice_get, Some, None};
-ghost use Rattle.rm_base.specs.Names.{place_of, Adds};
+ghost use Rattle.std.specs.Prelude.{◌≡◌, ◌<◌, ◌≤◌, ◌+◌, ℕ, List, [], ◌∷◌, ◌++◌, length, map, string_bytes, slice_get, set, replicate, Some, None, IfOk};
+ghost use Rattle.rm_base.specs.Names.{place_of, Adds, AreDistinct};
 
 pub mod codes;
 
@@ -44,7 +44,7 @@ pub enum Added {
     NoMemory,
 }
 
-/// A list of distinct names.
+/// A list of distinct names, each with its number, which counts from 0.
 #[derive(Drop)]
 pub struct Names {
     set: IndexSet<String>,
@@ -52,12 +52,13 @@ pub struct Names {
 
 impl Model for Names {
     ghost use Rattle.std.specs.Prelude.{List, ℕ, map, string_bytes, ◌≤◌, length};
+    ghost use Rattle.rm_base.specs.Names.{AreDistinct};
 
     ghost Value = { List (List ℕ) };
 
     ghost view = { λ s. map string_bytes s.set.keys };
 
-    ghost invariant = { λ s. length s.set.keys ≤ 4_000_000_000 };
+    ghost invariant = { λ s. (length s.set.keys ≤ 4_000_000_000) × AreDistinct (map string_bytes s.set.keys) };
 }
 
 impl Names {
@@ -70,7 +71,7 @@ impl Names {
         }
     }
 
-    /// Adds a name that is not held, as the last.
+    /// Adds a name that is not held, as the last. Where it is held, its number is answered and nothing changes.
     #[tactic(auto, using(crate::proofs::TextLemmas::position_map, std::proofs::lemmas::Grind::common_steps))]
     pub fn add(&mut self, name: &str) -> Added
         requires { length self.old < 4_000_000_000 }
@@ -89,7 +90,7 @@ impl Names {
         Added::Added(n as u32)
     }
 
-    /// The number of a name.
+    /// The number of a name. None exactly where it is not held.
     #[tactic(auto, using(crate::proofs::TextLemmas::position_map))]
     pub fn find(&self, name: &str) -> Option<u32>
         ensures { result ≡ place_of self.now name.now }
@@ -100,18 +101,74 @@ impl Names {
         }
     }
 
-    /// How many names are held.
+    /// How many names are held. They are distinct.
+    #[tactic(auto, using(crate::proofs::TextLemmas::length_of_map))]
     pub fn len(&self) -> u32
-        ensures { result ≡ length self.now }
+        ensures count { result ≡ length self.now }
+        ensures few { result ≤ 4_000_000_000 }
+        ensures distinct { AreDistinct self.now }
     {
         self.set.len() as u32
     }
 
-    /// The name with a number.
+    /// The name with the number n, which finds that number.
     pub fn name(&self, n: u32) -> &str
         requires { n < length self.now }
-        ensures { slice_get self.now n ≡ Some result.now }
+        ensures name { slice_get self.now n ≡ Some result.now }
+        ensures found { place_of self.now result.now ≡ Some n }
     {
         self.set.as_slice()[n as usize].as_str()
     }
 }
+
+/// The places of doctors: for each doctor, counted from 0, the number of his hospital, or none.
+#[derive(Drop)]
+pub struct Places {
+    places: Vec<Option<u32>>,
+}
+
+impl Model for Places {
+    ghost use Rattle.std.specs.Prelude.{List, ℕ, Option, ◌<◌, length};
+
+    ghost Value = { List (Option ℕ) };
+
+    ghost view = { λ s. s.places.items };
+
+    ghost invariant = { λ s. length s.places.items < 4_294_967_296 };
+}
+
+impl Places {
+    /// Places for so many doctors, none of whom has one.
+    pub fn empty(alloc: Global, doctors: u32) -> Result<Places, NoMemory>
+        ensures { IfOk result (λ places. places ≡ replicate doctors None) }
+    {
+        let places = vec![in alloc; None; doctors as usize]?;
+        Ok(Places { places })
+    }
+
+    /// The hospital of doctor d, or none.
+    pub fn get(&self, d: u32) -> Option<u32>
+        requires { d < length self.now }
+        ensures { slice_get self.now d ≡ Some result }
+    {
+        self.places[d as usize]
+    }
+
+    /// Gives doctor d the hospital h, or none. No other place changes.
+    pub fn set(&mut self, d: u32, h: Option<u32>)
+        requires { d < length self.old }
+        ensures { self.new ≡ set self.old d h }
+    {
+        self.places[d as usize] = h;
+    }
+
+    /// How many doctors there are.
+    pub fn len(&self) -> u32
+        ensures { result ≡ length self.now }
+    {
+        self.places.len() as u32
+    }
+}
+
+#[cfg(test)]
+mod tests;
