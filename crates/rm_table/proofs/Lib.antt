@@ -1,0 +1,4 @@
+pub mod CellLemmas
+pub mod CutLemmas
+pub mod RecordLemmas
+pub mod TextLemmas
