@@ -1,4 +1,6 @@
 pub mod CellLemmas
 pub mod CutLemmas
+pub mod OnLiterals
 pub mod RecordLemmas
+mod Small
 pub mod TextLemmas
