@@ -89,6 +89,3 @@ impl Sink for NullSink {
         Ok(())
     }
 }
-
-#[cfg(test)]
-mod tests;
