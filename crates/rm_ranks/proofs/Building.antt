@@ -1,17 +1,16 @@
 -- Lists that are built item by item: none, one begun, one item more.
-use Rattle.std.proofs.Common.{eqb, ◌||◌, ◌≢◌, ◌≡◌, ◌∙◌, sym, ap, subst, refl, ℕ, zero, suc, ◌+◌, ◌-◌, ◌<◌, ◌≤◌, ◌^◌, List, [], ◌∷◌, ◌++◌, length, map, take, drop, set, get_or, replicate, Bool, true, false, nat_lt, Option, Some, None, IsSome, inl, inr, arith, length-append, length-drop, length-set, All}
+use Rattle.std.proofs.Common.{◌≡◌, ◌∙◌, sym, ap, refl, ℕ, zero, suc, ◌+◌, ◌-◌, ◌<◌, ◌≤◌, ◌^◌, List, [], ◌∷◌, ◌++◌, length, take, drop, set, get_or, replicate, false, nat_lt, Option, Some, None, IsSome, inl, inr, arith, length-append, length-drop, length-set, All}
 use mathlib.Core.Bool.{false≢true}
 use Rattle.std.specs.Bool.{◌==◌}
 use Rattle.std.specs.List.{IsDistinct, list_any, AllByRecursion}
 use Rattle.std.proofs.lemmas.Bool.{cases_lt, cases_eq}
 use Rattle.std.proofs.lemmas.Bool.Decides.{nat_tests}
-use Rattle.std.proofs.lemmas.Grind.{common_steps}
 use Rattle.std.proofs.lemmas.List.{take_more, length-take-le, length-map, get_or-map, take_all, drop_all, drop-append-le, map-set, set-get_or, get_or-replicate, get_or_past, get_or_read, get_or-set_same, get_or-set_other, length-replicate}
 use Rattle.std.proofs.lemmas.List.Elements.{All-take, All-drop, All-map, All-nil, All-replicate, All-set, All-weaker, All-push}
 use Rattle.std.proofs.lemmas.List.Folds.{list_any-append}
 use Rattle.rm_ranks.specs.declared.packed.Span.{Span}
 use Rattle.rm_ranks.specs.Packed.{part, lists_of}
-use Rattle.rm_ranks.specs.Builder.{IsBuilt, IsLast, AreBuilt}
+use Rattle.rm_ranks.specs.Builder.{IsBuilt, AreBuilt}
 use Rattle.rm_ranks.proofs.Parts.{IsWithin, part-grown, lists-grown}
 use Rattle.rm_ranks.proofs.Searches.{both-false}
 

@@ -1,17 +1,16 @@
 -- The index of a list: how it is built, and what is found by it.
-use Rattle.std.proofs.Common.{eqb, ◌≡◌, ◌∙◌, sym, ap, subst, refl, ℕ, zero, suc, ◌+◌, ◌-◌, ◌<◌, ◌≤◌, ◌^◌, List, [], ◌∷◌, ◌++◌, length, take, drop, get_or, Bool, true, false, arith, append_assoc, add-one, length-append, length-take, length-drop, take-append-drop, All, slice_range, add-zero}
+use Rattle.std.proofs.Common.{eqb, ◌≡◌, ◌∙◌, sym, ap, refl, ℕ, suc, ◌+◌, ◌-◌, ◌<◌, ◌≤◌, ◌^◌, List, [], ◌∷◌, ◌++◌, length, take, drop, get_or, false, arith, append_assoc, length-append, length-drop, add-zero}
 use Rattle.std.specs.Bool.{◌==◌}
 use Rattle.std.specs.Ordering.{is_lt, nat_cmp, ordering_then}
-use Rattle.std.specs.List.{IsDistinct, list_any, AllAdjacentBelow}
+use Rattle.std.specs.List.{IsDistinct}
 use Rattle.std.specs.List.Sorted.{IsPermutation, IsSorted, IsNonDecreasingBy}
-use Rattle.std.proofs.lemmas.List.{append-nil, length-take-le, take_at, drop_at, take_all, drop_all, take_more, take-append-le, get_or_default}
+use Rattle.std.proofs.lemmas.List.{append-nil, length-take-le, take_at, drop_at, take_all, drop_all, take_more, get_or_default}
 use Rattle.std.proofs.lemmas.List.Sorted.{IsNonDecreasingBy-from_all_adjacent, length_permutation}
 use Rattle.std.proofs.lemmas.Bool.Decides.{nat_tests}
-use Rattle.std.proofs.lemmas.Grind.{common_steps}
 use Rattle.std.proofs.lemmas.Map.Steps.{length-le_from_distinct_below}
 use Rattle.std.proofs.lemmas.List.Folds.{Any-from_list_any}
 use borrow.Rule.Slice.PartMut.{post_of}
-use Rattle.rm_ranks.specs.Packed.{placed_from, IsIndexOf, AddsIndex}
+use Rattle.rm_ranks.specs.Packed.{placed_from, AddsIndex}
 
 -- ---- building
 

@@ -1,13 +1,12 @@
 -- Lists in one buffer: what is added at its end leaves them, and one list more.
-use Rattle.std.proofs.Common.{◌≡◌, ◌∙◌, sym, ap, subst, refl, ℕ, ◌+◌, ◌-◌, ◌<◌, ◌≤◌, ◌^◌, List, [], ◌∷◌, ◌++◌, length, map, take, drop, get_or, arith, length-append, length-drop, All}
+use Rattle.std.proofs.Common.{◌≡◌, sym, refl, ℕ, ◌+◌, ◌-◌, ◌<◌, ◌≤◌, ◌^◌, List, [], ◌∷◌, ◌++◌, length, drop, arith, length-append, length-drop, All}
 use Rattle.std.specs.Bool.{◌==◌}
 use Rattle.std.specs.List.{IsDistinct}
-use Rattle.std.specs.List.Sorted.{IsPermutation, IsNonDecreasingBy}
 use Rattle.std.proofs.lemmas.List.{take_all, drop_at, take-append-le, drop-append-le, map-append}
 use Rattle.std.proofs.lemmas.List.Elements.{All-head, All-tail, All-push, All-weaker, All-map}
 use Rattle.std.proofs.lemmas.List.Sorted.{length_permutation}
 use Rattle.rm_ranks.specs.declared.packed.Span.{Span}
-use Rattle.rm_ranks.specs.Packed.{part, lists_of, placed_from, IsIndexOf, AddsIndex, IsPacked, ArePacked}
+use Rattle.rm_ranks.specs.Packed.{part, lists_of, placed_from, AddsIndex, IsPacked, ArePacked}
 
 -- a span that stands within a buffer of some length
 pub record IsWithin (n : ℕ) (s : Span) : Type 0 where

@@ -1,5 +1,5 @@
 -- What building lists answers.
-use Rattle.std.specs.Prelude.{◌≡◌, ℕ, ◌≤◌, ◌<◌, ◌^◌, ◌==◌, nat_lt, true, false, List, [], ◌∷◌, length, drop, get_or, map, Option, Some, None, IsSome, Result, Ok, Err, All}
+use Rattle.std.specs.Prelude.{◌≡◌, ℕ, ◌≤◌, ◌<◌, ◌^◌, ◌==◌, nat_lt, true, false, List, [], ◌∷◌, length, drop, get_or, Option, Some, None, IsSome, Result, Ok, Err, All}
 use Rattle.std.specs.List.{IsDistinct, list_any}
 use Rattle.rm_ranks.specs.Built.{ListsTold, last_list, begun, with_items}
 use Rattle.rm_ranks.specs.Packed.{part}

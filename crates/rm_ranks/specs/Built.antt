@@ -1,5 +1,5 @@
 -- Lists of numbers that are built item by item.
-use Rattle.std.specs.Prelude.{ℕ, ◌+◌, List, [], ◌∷◌, ◌++◌, get_or, set, length, Option, Some, None}
+use Rattle.std.specs.Prelude.{ℕ, ◌+◌, List, [], ◌++◌, get_or, set, length, Option, Some, None}
 
 -- the lists, the mark of each that was begun, which was begun last, how many items they hold,
 -- how many different items there are, and how many the lists may hold

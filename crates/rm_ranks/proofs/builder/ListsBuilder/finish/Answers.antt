@@ -1,4 +1,4 @@
-use Rattle.std.proofs.Common.{◌≡◌, ◌∙◌, ◌<◌, List, ℕ, ◌∷◌, [], ◌++◌, length, ap, sym, arith}
+use Rattle.std.proofs.Common.{◌∙◌, ◌<◌, length, ap, sym, arith}
 use Rattle.std.proofs.lemmas.List.{length-map}
 use Rattle.rm_ranks.specs.Packed.{part, lists_of}
 use Rattle.rm_ranks.proofs.Building.{no_span, lists-below, one-fits, one-finished}

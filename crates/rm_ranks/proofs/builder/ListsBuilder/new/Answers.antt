@@ -1,6 +1,6 @@
-use Rattle.std.proofs.Common.{rules, ℕ, ◌≡◌, ◌+◌, ◌^◌, ◌<◌, length, replicate, None, ap, refl, arith}
+use Rattle.std.proofs.Common.{rules, ℕ, refl, arith}
 use Rattle.std.proofs.lemmas.List.{length-replicate}
-use Rattle.rm_ranks.proofs.Building.{no_span, no-lists, none-built}
+use Rattle.rm_ranks.proofs.Building.{no-lists, none-built}
 use Rattle.rm_ranks.proofs.builder.ListsBuilder.new.Goals as goal
 
 pub invariant_of-result : goal.invariant_of-result

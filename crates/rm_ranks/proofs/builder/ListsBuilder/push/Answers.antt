@@ -1,4 +1,4 @@
-use Rattle.std.proofs.Common.{◌≡◌, ◌+◌, ◌<◌, ◌∷◌, [], ◌++◌, length, refl, ap, arith, length-append, length-set}
+use Rattle.std.proofs.Common.{◌≡◌, ◌+◌, ◌<◌, ◌∷◌, [], length, refl, ap, arith, length-append, length-set}
 use Rattle.rm_ranks.proofs.Building.{not-repeated, lists-item, item-built}
 use Rattle.rm_ranks.proofs.builder.ListsBuilder.push.Goals as goal
 
