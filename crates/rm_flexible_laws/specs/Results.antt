@@ -1,14 +1,17 @@
 -- What is proved of regions, of their pick and of their board.
-use Rattle.std.specs.Prelude.{◌≡◌, ◌↔◌, ℕ, ◌<◌, List, length, IsTrue}
+use Rattle.std.specs.Prelude.{◌≡◌, ◌↔◌, ℕ, ◌+◌, ◌<◌, List, length, All, IsTrue}
 use Rattle.rm_sets.specs.Sets.{IsSet, IsSetBelow}
-use Rattle.rm_market.specs.Board.{Board, contract_count, hospital_of, is_feasible}
-use Rattle.rm_market.specs.Best.{IsBest, values_of}
+use Rattle.rm_market.specs.Board.{Board, IsBoard, IsFalling, contract_count, hospital_of, is_feasible}
+use Rattle.rm_market.specs.Best.{IsBest, IsChoice, values_of}
 use Rattle.rm_market.specs.Stable.{Wishes, IsPlacement, IsStable, IsOptimal, IsOnlyOptimal, Takes}
-use Rattle.rm_market.specs.Market.{Market, IsStableIn, wishes_of}
-use Rattle.rm_market.specs.Flexible.{Region, kept, in_region, flexible, has_count_form}
+use Rattle.rm_market.specs.Market.{Market, IsMarket, IsStableIn, wishes_of}
+use Rattle.rm_market.specs.Flexible.{Region, Seat, kept, in_region, flexible, seat_steps, has_count_form}
 use Rattle.rm_market.specs.Machine.{IsClosed}
 use Rattle.rm_market.specs.Laws.{AreWishes, after}
-use Rattle.rm_flexible_laws.specs.Region.{region_at, IsPicked}
+use Rattle.rm_matching_laws.specs.Results.{RunsClose}
+use Rattle.rm_market_laws.specs.Results.{RunsWellIn, HasPlacement}
+use Rattle.rm_flexible_laws.specs.Region.{region_at, IsRegion, IsRegions, IsPlace, IsPicked}
+use Rattle.rm_flexible_laws.specs.Compiled.{IsCompiled}
 
 -- what one region keeps of its contracts, told by counts
 abbrev pub KeptIsPicked : Board → List Region → Type 0
@@ -57,3 +60,48 @@ abbrev pub FlexibleRunsEnd : Board → List Region → Type 0
 FlexibleRunsEnd b regions =
     (w : Wishes) → AreWishes (contract_count b) w → (ds : List ℕ) → IsClosed (flexible b regions) w (after (flexible b regions) w ds) →
     IsOnlyOptimal (IsBest (values_of b)) w (after (flexible b regions) w ds).held
+
+-- the steps of a hospital's seats never rise
+abbrev pub SeatStepsFall : Type 0
+SeatStepsFall = (r : Region) (j : ℕ) (s : Seat) → IsFalling (seat_steps r (j + 1) s)
+
+-- what regions keep is a lawful choice
+abbrev pub FlexibleIsLawful : Board → List Region → Type 0
+FlexibleIsLawful b regions = IsChoice (contract_count b) (flexible b regions)
+
+-- regions in which each hospital with a rank list stands once are lawful
+abbrev pub RegionsOfHospitals : Type 0
+RegionsOfHospitals =
+    (b : Board) (regions : List Region) → All IsRegion regions → ((h i j k l : ℕ) → IsPlace regions h i j → IsPlace regions h k l → i ≡ k) →
+    ((h : ℕ) → h < length b.ranks → (i : ℕ) × (j : ℕ) × IsPlace regions h i j) → IsRegions (contract_count b) (hospital_of b) regions
+
+-- in a market: each run of the flexible procedure has the laws, goes on to a closed one, and some closed one ends in the placement
+abbrev pub FlexibleRunsWellIn : Market → List Region → Type 0
+FlexibleRunsWellIn m regions = RunsWellIn m (flexible m.board regions)
+
+abbrev pub FlexibleRunsCloseIn : Market → List Region → Type 0
+FlexibleRunsCloseIn m regions = RunsClose (flexible m.board regions) (wishes_of m)
+
+abbrev pub FlexibleHasPlacement : Market → List Region → Type 0
+FlexibleHasPlacement m regions = HasPlacement m (flexible m.board regions)
+
+-- ---- where the theorems hold
+
+-- on any board with lawful regions
+abbrev pub OfRegions : (Board → List Region → Type 0) → Type 0
+OfRegions Holds = (b : Board) (regions : List Region) → IsRegions (contract_count b) (hospital_of b) regions → Holds b regions
+
+-- of the flexible procedure on any board with lawful regions, and all wishes
+abbrev pub OfFlexible : ((List ℕ → List ℕ) → Wishes → Type 0) → Type 0
+OfFlexible Holds =
+    (b : Board) (regions : List Region) (w : Wishes) → IsRegions (contract_count b) (hospital_of b) regions → AreWishes (contract_count b) w → Holds (flexible b regions) w
+
+-- on the board of the regions
+abbrev pub OnBoardsOfRegions : (Board → List Region → Type 0) → Type 0
+OnBoardsOfRegions Holds =
+    (doctors : ℕ) (b : Board) (regions : List Region) → IsBoard doctors b → IsRegions (contract_count b) (hospital_of b) regions → IsCompiled b regions → Holds b regions
+
+-- in a market on the board of the regions
+abbrev pub InMarketsOfRegions : (Market → List Region → Type 0) → Type 0
+InMarketsOfRegions Holds =
+    (m : Market) (regions : List Region) → IsMarket m → IsRegions (contract_count m.board) (hospital_of m.board) regions → IsCompiled m.board regions → Holds m regions

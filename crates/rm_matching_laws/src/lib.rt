@@ -1,61 +1,59 @@
-//! Lawful choices, offers in turn, stable and optimal sets: theorems over the definitions of rm_market.
+//! Lawful choices, deferred acceptance, stable and optimal sets: theorems over the definitions of rm_market.
+//! The functions have no code: each carries a theorem for the crates that compute.
 #![tactic(auto)]
 
-ghost use Rattle.std.specs.Prelude.{◌≡◌, ◌↔◌, ℕ, ◌<◌, List, false, IsTrue};
-ghost use Rattle.rm_sets.specs.Sets.{has, IsSetBelow, with_one};
-ghost use Rattle.rm_market.specs.Best.{IsChoice, IsPathIndependent};
+ghost use Rattle.std.specs.Prelude.{ℕ, List};
 ghost use Rattle.rm_market.specs.Stable.{Wishes};
-ghost use Rattle.rm_market.specs.Machine.{IsClosed, is_closed, closing, IsOutcome, outcome_of};
-ghost use Rattle.rm_market.specs.Laws.{after, AreWishes, RunsWell, PlacesSame, IsTruthful, EveryChoiceRunsWell, JoinedIsLawful};
-ghost use Rattle.rm_matching_laws.specs.Results.{SwapsOne, RunsClose, HasOneOptimal, OptimalIsOne};
+ghost use Rattle.rm_market.specs.Laws.{EveryChoiceRunsWell, IsTruthful, PlacesSame, RunsWell};
+ghost use Rattle.rm_matching_laws.specs.Results.{ChoicesSwapOne, ChoicesHaveOutcomes, ClosedIsTested, HasOneOptimal, LawfulIsPathIndependent, LawfulPartsJoin, OfLawfulChoices, OptimalIsOne, RoundsClose, RunsClose};
 
-/// Every lawful choice is path independent.
+/// Path independence: to choose first from one part changes nothing (Aygun and Sonmez).
 #[tactic(auto, using(crate::proofs::PathIndependence::path_independence))]
 pub fn path_independence()
-    ensures { (n : ℕ) (chosen : List ℕ → List ℕ) → IsChoice n chosen → IsPathIndependent n chosen }
+    ensures { LawfulIsPathIndependent }
 {}
 
 /// A lawful choice answers one more contract in one of three ways, and the outcome says in which.
 pub fn one_more_contract()
-    ensures swaps { (n : ℕ) (chosen : List ℕ → List ℕ) → IsChoice n chosen → SwapsOne n chosen }
-    ensures outcome { (n : ℕ) (chosen : List ℕ → List ℕ) (H : List ℕ) (x : ℕ) → IsChoice n chosen → IsSetBelow n H → x < n → chosen H ≡ H → has x H ≡ false → IsOutcome H x (chosen (with_one H x)) (outcome_of H x (chosen (with_one H x))) }
+    ensures swaps { ChoicesSwapOne }
+    ensures outcome { ChoicesHaveOutcomes }
 {}
 
-/// What lawful parts choose together is lawful.
+/// What lawful choices over disjoint parts of the contracts choose together is a lawful choice.
 pub fn lawful_parts_join()
-    ensures { (n : ℕ) (part : ℕ → ℕ) (parts : ℕ) (choose : ℕ → List ℕ → List ℕ) → JoinedIsLawful n part parts choose }
+    ensures { LawfulPartsJoin }
 {}
 
-/// In every run what is held is chosen of what was offered, what was refused stands in no stable set, and where the run is closed
-/// what is held is the one optimal set. Each run goes on to a closed one.
+/// Deferred acceptance in every order: what is held is chosen of all that was offered, what was refused stands in no stable set, and
+/// where a run is closed the one optimal set is held (Hatfield and Milgrom 2005). Each run goes on to a closed one.
 pub fn deferred_acceptance()
-    ensures runs { (n : ℕ) (chosen : List ℕ → List ℕ) (w : Wishes) → IsChoice n chosen → AreWishes n w → RunsWell chosen w }
-    ensures closes { (n : ℕ) (chosen : List ℕ → List ℕ) (w : Wishes) → IsChoice n chosen → AreWishes n w → RunsClose chosen w }
+    ensures runs { OfLawfulChoices RunsWell }
+    ensures closes { OfLawfulChoices RunsClose }
 {}
 
 /// Turns of all doctors in order, as many rounds as contracts are listed, close every run; and the test for closed states is right.
 pub fn rounds_close()
-    ensures tested { (n : ℕ) (chosen : List ℕ → List ℕ) (w : Wishes) → IsChoice n chosen → AreWishes n w → (ds : List ℕ) → IsTrue (is_closed w (after chosen w ds)) ↔ IsClosed chosen w (after chosen w ds) }
-    ensures closed { (n : ℕ) (chosen : List ℕ → List ℕ) (w : Wishes) → IsChoice n chosen → AreWishes n w → IsClosed chosen w (after chosen w (closing w)) }
+    ensures tested { OfLawfulChoices ClosedIsTested }
+    ensures closed { OfLawfulChoices RoundsClose }
 {}
 
-/// There is exactly one optimal set.
+/// Exactly one stable set is best for every doctor among all stable sets.
 pub fn one_optimal_set()
     ensures one { (chosen : List ℕ → List ℕ) (w : Wishes) → OptimalIsOne chosen w }
-    ensures exists { (n : ℕ) (chosen : List ℕ → List ℕ) (w : Wishes) → IsChoice n chosen → AreWishes n w → HasOneOptimal chosen w }
+    ensures exists { OfLawfulChoices HasOneOptimal }
 {}
 
-/// All stable sets place the same doctors.
+/// The rural hospitals theorem, for doctors: all stable sets place the same doctors (Roth; Hatfield and Milgrom 2005).
 pub fn rural_hospitals()
-    ensures { (n : ℕ) (chosen : List ℕ → List ℕ) (w : Wishes) → IsChoice n chosen → AreWishes n w → PlacesSame chosen w }
+    ensures { OfLawfulChoices PlacesSame }
 {}
 
-/// By no other list does a doctor get a contract that he prefers.
+/// Truthfulness, or strategy-proofness for doctors: by no other list does a doctor get a contract that he prefers.
 pub fn truthfulness()
-    ensures { (n : ℕ) (chosen : List ℕ → List ℕ) (w : Wishes) → IsChoice n chosen → AreWishes n w → IsTruthful chosen w }
+    ensures { OfLawfulChoices IsTruthful }
 {}
 
-/// All of this together.
+/// Of every lawful choice: deferred acceptance, rural hospitals and truthfulness together.
 pub fn every_lawful_choice()
     ensures { EveryChoiceRunsWell }
 {}
