@@ -20,13 +20,13 @@ get-last : {X : Type 0} (xs : List X) (y : X) → slice_get (xs ++ y ∷ []) (le
 get-last [] y = refl
 get-last (x ∷ xs) y = get-last xs y
 
-place-front : (names : List (List ℕ)) (name other : List ℕ) (n : ℕ) → place_of names name ≡ Some n → place_of (names ++ other ∷ []) name ≡ Some n
+pub place-front : (names : List (List ℕ)) (name other : List ℕ) (n : ℕ) → place_of names name ≡ Some n → place_of (names ++ other ∷ []) name ≡ Some n
 place-front names name other n at = position_push (bytes_eq name) names other ∙ rw at refl
 
-place-last : (names : List (List ℕ)) (name : List ℕ) → place_of names name ≡ None → place_of (names ++ name ∷ []) name ≡ Some (length names)
+pub place-last : (names : List (List ℕ)) (name : List ℕ) → place_of names name ≡ None → place_of (names ++ name ∷ []) name ≡ Some (length names)
 place-last names name none = position_push (bytes_eq name) names name ∙ rw (none, (bytes_eq-Decides name name).1 refl) refl
 
-distinct-more : (names : List (List ℕ)) (name : List ℕ) → AreDistinct names → place_of names name ≡ None → AreDistinct (names ++ name ∷ [])
+pub distinct-more : (names : List (List ℕ)) (name : List ℕ) → AreDistinct names → place_of names name ≡ None → AreDistinct (names ++ name ∷ [])
 distinct-more names name distinct none =
     let found : (n : ℕ) (x : List ℕ) → slice_get (names ++ name ∷ []) n ≡ Some x → place_of (names ++ name ∷ []) x ≡ Some n =
     λ n x at. (elim (cases_lt n (length names)) [

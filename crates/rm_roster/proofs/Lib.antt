@@ -1,0 +1,11 @@
+pub mod Accepted
+mod AcceptedHospitals
+mod AcceptedLists
+mod DoctorRows
+mod Files
+mod HeaderLemmas
+mod HospitalRows
+mod ItemCells
+mod NumberLemmas
+mod NumberedTexts
+mod RankRows

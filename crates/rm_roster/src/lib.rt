@@ -1,0 +1,130 @@
+//! The roster: what the files of hospitals, doctors and rank lists say.
+#![tactic(auto)]
+
+ghost use Rattle.std.specs.Prelude.{◌≡◌, ◌<◌, get_or, length};
+ghost use Rattle.rm_base.specs.Checks.{first_of};
+ghost use Rattle.rm_base.specs.Reading.{Reads};
+ghost use Rattle.rm_roster.specs.Roster.{IsRoster, roster_checks, roster_of};
+
+mod cells;
+mod doctors;
+mod hospitals;
+mod items;
+mod ranks;
+
+use doctors::Doctors;
+use hospitals::Hospitals;
+use ranks::read_ranks;
+use rm_base::{Names, ReadFault};
+use rm_ranks::Lists;
+use rm_table::Table;
+use std::alloc::Global;
+use std::marker::Model;
+
+/// Why no roster was read: the first refusal of the files, or want of memory.
+pub type RosterFault = ReadFault;
+
+/// What the files of hospitals, doctors and rank lists say. Hospitals and doctors are numbered from 0 in the order of their
+/// rows, prefectures in the order of their first appearance.
+#[derive(Drop)]
+pub struct Roster {
+    hospitals: Hospitals,
+    doctors: Doctors,
+    ranks: Lists,
+}
+
+impl Model for Roster {
+    ghost use Rattle.rm_roster.specs.Roster.{RosterData, IsRoster, joined};
+
+    ghost Value = { RosterData };
+
+    ghost view = { λ r. joined r.hospitals r.doctors r.ranks };
+
+    ghost invariant = { λ r. IsRoster (joined r.hospitals r.doctors r.ranks) };
+}
+
+impl Roster {
+    /// The roster that three tables tell, or their first refusal: the tables in this order, in each the header and then its
+    /// rows, and in a row its fields.
+    pub fn read(
+        alloc: Global,
+        hospitals: &Table,
+        doctors: &Table,
+        ranks: &Table,
+    ) -> Result<Roster, RosterFault>
+        ensures { Reads (first_of (roster_checks hospitals.now doctors.now ranks.now)) (roster_of hospitals.now doctors.now ranks.now) result }
+    {
+        let hospitals = Hospitals::read(alloc, hospitals)?;
+        let doctors = Doctors::read(alloc, doctors, hospitals.names())?;
+        let ranks = read_ranks(alloc, ranks, hospitals.names(), doctors.names())?;
+        Ok(Roster {
+            hospitals,
+            doctors,
+            ranks,
+        })
+    }
+
+    /// The names of the hospitals.
+    pub fn hospitals(&self) -> &Names
+        ensures hospitals { result.now ≡ self.entry.now.hospitals }
+        ensures roster { IsRoster self.entry.now }
+    {
+        self.hospitals.names()
+    }
+
+    /// The names of the prefectures.
+    pub fn prefectures(&self) -> &Names
+        ensures prefectures { result.now ≡ self.entry.now.prefectures }
+        ensures roster { IsRoster self.entry.now }
+    {
+        self.hospitals.prefectures()
+    }
+
+    /// The names of the doctors.
+    pub fn doctors(&self) -> &Names
+        ensures doctors { result.now ≡ self.entry.now.doctors }
+        ensures roster { IsRoster self.entry.now }
+    {
+        self.doctors.names()
+    }
+
+    /// The number of the prefecture of hospital h.
+    pub fn prefecture_of(&self, h: u32) -> u32
+        requires { h < length self.now.hospitals }
+        ensures { result ≡ get_or self.now.prefecture_of h 0 }
+    {
+        self.hospitals.prefecture_of(h)
+    }
+
+    /// How many seats hospital h has, 10,000 at most.
+    pub fn capacity(&self, h: u32) -> u32
+        requires { h < length self.now.hospitals }
+        ensures { result ≡ get_or self.now.capacities h 0 }
+    {
+        self.hospitals.capacity(h)
+    }
+
+    /// The target of hospital h, its capacity at most.
+    pub fn target(&self, h: u32) -> u32
+        requires { h < length self.now.hospitals }
+        ensures { result ≡ get_or self.now.targets h 0 }
+    {
+        self.hospitals.target(h)
+    }
+
+    /// Per doctor, the hospitals of his list, best first.
+    pub fn lists(&self) -> &Lists
+        ensures lists { result.now ≡ self.entry.now.lists }
+        ensures roster { IsRoster self.entry.now }
+    {
+        self.doctors.lists()
+    }
+
+    /// Per hospital, the doctors of its rank list, best first.
+    pub fn ranks(&self) -> &Lists
+        ensures ranks { result.now ≡ self.entry.now.ranks }
+        ensures roster { IsRoster self.entry.now }
+    {
+        &self.ranks
+    }
+}
