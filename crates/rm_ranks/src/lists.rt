@@ -55,6 +55,15 @@ impl Lists {
         self.packed.spans.len() as u32
     }
 
+    /// A copy.
+    pub fn copy(&self, alloc: Global) -> Result<Lists, NoMemory>
+        ensures { IfOk result (λ lists. lists ≡ self.now) }
+    {
+        Ok(Lists {
+            packed: self.packed.copy(alloc)?,
+        })
+    }
+
     /// A copy in which list i is replaced by one of distinct items, and no other list is.
     pub fn with(&self, alloc: Global, i: u32, list: &[u32]) -> Result<Lists, NoMemory>
         requires i { i < length self.now }

@@ -1,6 +1,6 @@
 // Lists of distinct numbers, one after the other in one buffer, each with its items in their order and their places.
 
-ghost use Rattle.std.specs.Prelude.{◌≡◌, ◌+◌, ◌<◌, ◌^◌, ◌==◌, [], ◌∷◌, ◌++◌, length, OnOk};
+ghost use Rattle.std.specs.Prelude.{◌≡◌, ◌+◌, ◌<◌, ◌^◌, ◌==◌, [], ◌∷◌, ◌++◌, length, IfOk, OnOk};
 ghost use Rattle.std.specs.List.{IsDistinct};
 ghost use Rattle.rm_ranks.specs.Packed.{ArePacked, AddsIndex, lists_of};
 
@@ -32,6 +32,19 @@ impl Packed {
             places: Vec::new(alloc),
             spans: Vec::new(alloc),
         }
+    }
+
+    // The same lists.
+    pub fn copy(&self, alloc: Global) -> Result<Packed, AllocError>
+        ensures items { IfOk result (λ p. p.items.items ≡ self.now.items.items) }
+        ensures places { IfOk result (λ p. p.places.items ≡ self.now.places.items) }
+        ensures spans { IfOk result (λ p. p.spans.items ≡ self.now.spans.items) }
+    {
+        Ok(Packed {
+            items: Vec::from_slice(alloc, &self.items)?,
+            places: Vec::from_slice(alloc, &self.places)?,
+            spans: Vec::from_slice(alloc, &self.spans)?,
+        })
     }
 
     // Adds a list as the last.
