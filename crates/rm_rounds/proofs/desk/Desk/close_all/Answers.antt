@@ -1,0 +1,38 @@
+use Rattle.std.proofs.Common.{◌∙◌, ◌++◌, ap, length, arith}
+use Rattle.rm_rounds.specs.Desk.{desk_state}
+use Rattle.rm_rounds.proofs.Closing.{told_desk, settles_same, run_on, one_more_settled, closed_later, optimal_later}
+use Rattle.rm_rounds.proofs.desk.Desk.close_all.Goals as goal
+
+pub loop-d-preserved : goal.loop-d-preserved
+loop-d-preserved g c =
+    let inv = c.loop-d.invariant in
+    let did = c.settle.ensures in
+    let more = settles_same _ _ _ _ _ _ _ _ inv.chosen inv.wishes did.settled in
+    record {
+      reached = (
+        inv.reached.0 ++ more.reached.0,
+        run_on (g.H.Holder.chosen c.args.self.now.holder) c.args.self.now.wishes inv.reached.0 more.reached.0
+            (desk_state g.H.Holder.held c.args.self.now) (desk_state g.H.Holder.held c.loop-d.self) (desk_state g.H.Holder.held c.settle.new.self) inv.reached.1 more.reached.1,
+      );
+      settled = one_more_settled _ _ c.loop-d.d _ _ more inv.settled;
+      wishes = did.wishes ∙ inv.wishes;
+      chosen = did.chosen ∙ inv.chosen;
+    }
+
+pub returns-clause-closed : goal.returns-clause-closed
+returns-clause-closed g c =
+    let desk = told_desk g.H.Holder.count g.H.Holder.chosen g.H.Holder.held c.args.self.now _ _ _ _ _ c.self.view_is c.self.invariant in
+    let law = g.met.H.Holder.lawful c.args.self.now.holder in
+    let f = ap (λ k. length k.wishes.listed) c.self.view_is in
+    let len = c.len-d-end.ensures in
+    let inv = c.loop-d.invariant in
+    closed_later _ _ _ _ _ law desk _ inv.reached.0 inv.reached.1 _ _ inv.chosen inv.wishes (λ d lt. inv.settled d (omega (arith, lt, f, len)))
+
+pub returns-clause-optimal : goal.returns-clause-optimal
+returns-clause-optimal g c =
+    let desk = told_desk g.H.Holder.count g.H.Holder.chosen g.H.Holder.held c.args.self.now _ _ _ _ _ c.self.view_is c.self.invariant in
+    let law = g.met.H.Holder.lawful c.args.self.now.holder in
+    let f = ap (λ k. length k.wishes.listed) c.self.view_is in
+    let len = c.len-d-end.ensures in
+    let inv = c.loop-d.invariant in
+    optimal_later _ _ _ _ _ law desk _ inv.reached.0 inv.reached.1 _ _ inv.chosen inv.wishes (λ d lt. inv.settled d (omega (arith, lt, f, len)))
