@@ -124,8 +124,8 @@ hospitals_make_boards doctors ranks steps groups ties = is_board ranks steps gro
 
 -- ---- the plain market
 
-flat_falls : (c : ℕ) → IsFalling (replicate c (pos 0))
-flat_falls c k d lt =
+pub zeros_fall : (c : ℕ) → IsFalling (replicate c (pos 0))
+zeros_fall c k d lt =
     let zeros = All-replicate (λ z. z ≡ pos 0) c (pos 0) refl in
     let here : get_or (replicate c (pos 0)) k d ≡ pos 0 = zeros k d (omega arith) in
     let next : get_or (replicate c (pos 0)) (k + 1) d ≡ pos 0 = zeros (k + 1) d lt in
@@ -136,6 +136,6 @@ no_groups = record { sets = All-nil (λ g. IsSet g.leaves); laminar = λ i j d l
 
 pub plain_markets : PlainMarkets
 plain_markets ranks capacities lists ranked listed = record {
-  board = hospitals_make_boards (length lists) ranks (λ h. replicate (get_or capacities h 0) (pos 0)) [] (by_rank ranks) ranked (λ h lt. flat_falls (get_or capacities h 0)) no_groups (rank_ties ranks);
+  board = hospitals_make_boards (length lists) ranks (λ h. replicate (get_or capacities h 0) (pos 0)) [] (by_rank ranks) ranked (λ h lt. zeros_fall (get_or capacities h 0)) no_groups (rank_ties ranks);
   lists = listed;
 }
