@@ -1,16 +1,16 @@
 -- Groups pass all checks exactly where they make a tree.
-use Rattle.std.proofs.Common.{◌≡◌, ℕ, ◌+◌, ◌<◌, Bool, true, false, List, [], ◌∷◌, ◌++◌, length, get_or, count_by, option_map, nat_le, Option, Some, None, refl, sym, ◌∙◌, subst, subst₂, cond, ⊎_elim, arith, All, AllPairs, append_assoc}
+use Rattle.std.proofs.Common.{◌≡◌, ℕ, ◌+◌, ◌<◌, Bool, false, List, [], ◌∷◌, ◌++◌, length, get_or, count_by, option_map, nat_le, Option, Some, None, refl, sym, ◌∙◌, subst, subst₂, cond, ⊎_elim, arith, All, AllPairs, append_assoc}
 use Rattle.std.specs.Prelude.{position}
 use Rattle.std.specs.List.{list_any}
 use Rattle.std.proofs.Math.ListN.{get_or-append}
-use Rattle.std.proofs.lemmas.Bool.{cases_Bool, or_left, or_right, leb-false, lt-leb}
+use Rattle.std.proofs.lemmas.Bool.{leb-false, lt-leb}
 use Rattle.std.proofs.lemmas.List.{append-nil, length-append}
 use Rattle.std.proofs.lemmas.List.Elements.{All-nil, All-cons, All-head, All-tail, All-from_get_or}
 use Rattle.std.proofs.lemmas.List.Quantifiers.{all_pairs_push, position-Some}
 use Rattle.std.proofs.lemmas.List.Sums.{sum_by-append}
 use Rattle.rm_sets.specs.Sets.{has, IsIn}
-use Rattle.rm_sets.proofs.Sets.{IsIn-here, IsIn-later, IsIn-cases, not_both, cases_has}
-use Rattle.rm_sets.proofs.Members.{not_in_nil}
+use Rattle.rm_sets.proofs.Sets.{not_both, cases_has}
+use Rattle.rm_sets.proofs.Search.{any_none, none_any}
 use Rattle.rm_base.specs.Checks.{check, first_of, checks_from}
 use Rattle.rm_base.proofs.CheckLemmas.{first-none}
 use Rattle.rm_market.specs.Board.{is_empty, crosses}
@@ -40,18 +40,6 @@ position_none p L none = by (position p L) refl
     by : (o : Option ℕ) → position p L ≡ o → position p L ≡ None
     by None e = e
     by (Some i) e = let at = position-Some p L i [] e in absurd (not_both (p (get_or L i [])) at.1 (none i [] at.0))
-
--- a test of some member
-any_none : (p : ℕ → Bool) (S : List ℕ) → list_any p S ≡ false → (x : ℕ) → IsIn x S → p x ≡ false
-any_none p S f x i = ⊎_elim (λ t. absurd (not_both (list_any p S) (found S i t) f)) (λ e. e) (cases_Bool (p x))
-  where
-    found : (T : List ℕ) → IsIn x T → p x ≡ true → list_any p T ≡ true
-    found [] j t = absurd (not_in_nil x j)
-    found (y ∷ T) j t = ⊎_elim (λ e. or_left (p y) (list_any p T) (subst (λ z. p z ≡ true) e t)) (λ k. or_right (p y) (list_any p T) (found T k t)) (IsIn-cases x y T j)
-
-none_any : (p : ℕ → Bool) (S : List ℕ) → ((x : ℕ) → IsIn x S → p x ≡ false) → list_any p S ≡ false
-none_any p [] f = refl
-none_any p (y ∷ S) f = rw (f y (IsIn-here y S)) (none_any p S (λ x i. f x (IsIn-later x y S i)))
 
 abbrev is_deep : List (List ℕ) → List ℕ → ℕ → Bool
 is_deep before group h = nat_le most_nodes (count_by (has h) (before ++ group ∷ []))

@@ -1,18 +1,20 @@
 -- Rank lists, steps that never rise, groups that don't cross and a tie order make a board.
-use Rattle.std.proofs.Common.{◌≡◌, ℕ, zero, suc, ◌+◌, ◌<◌, Bool, true, false, not, ◌&&◌, List, [], ◌∷◌, ◌++◌, length, map, get_or, replicate, ℤ, pos, Some, refl, sym, ap, ◌∙◌, subst, ⊎_elim, arith, All, AllPairs, IsFalse, append_assoc}
+use Rattle.std.proofs.Common.{◌≡◌, ℕ, zero, suc, ◌+◌, ◌<◌, Bool, true, false, not, ◌&&◌, List, [], ◌∷◌, ◌++◌, length, map, get_or, replicate, ℤ, pos, Some, refl, sym, ap, ap₂, ◌∙◌, subst, ⊎_elim, arith, All, AllPairs, IsFalse, append_assoc}
 use Rattle.std.specs.Prelude.{slice_get}
 use Rattle.std.proofs.lemmas.Int.{ints}
 use Rattle.std.proofs.lemmas.Bool.{cases_lt}
 use Rattle.std.proofs.lemmas.List.{length-map, map-append}
-use Rattle.std.proofs.lemmas.List.Elements.{All-append, All-map, All-nil, All-replicate}
+use Rattle.std.proofs.lemmas.List.Elements.{All-append, All-map, All-nil, All-cons, All-head, All-tail, All-replicate}
 use Rattle.std.proofs.lemmas.List.Kept.{AllPairs-cons}
+use Rattle.std.proofs.lemmas.Simd.{map-map}
 use Rattle.rm_sets.specs.Sets.{has, IsIn, IsSet, common, minus, below}
 use Rattle.rm_sets.proofs.Sets.{not_both, cases_has, below-all_below, IsSet-cons, IsSet-nil, IsIn-here, IsIn-cases}
 use Rattle.rm_sets.proofs.Members.{not_in_nil, IsIn-from_common, IsIn-from_minus, All-from_members}
 use Rattle.rm_sets.proofs.Once.{length-below}
 use Rattle.rm_market.specs.Board.{Node, Board, IsBoard, IsFalling, IsNodeOf, IsTieOrder, leaf_of, hospital_of, pairs_of, crosses, is_empty}
 use Rattle.rm_market.specs.Ties.{by_rank}
-use Rattle.rm_board_laws.specs.HospitalBoards.{hospital_nodes, hospital_board, AreListsBelow, AreGroups, HospitalsMakeBoards, PlainMarkets}
+use Rattle.rm_board_laws.specs.HospitalBoards.{hospital_nodes, hospital_board, group_nodes, AreListsBelow, AreGroups, HospitalsMakeBoards, PlainMarkets, AcceptedMarkets, AcceptedTrees}
+use Rattle.rm_board_laws.proofs.Groups.{accepted_groups}
 use Rattle.rm_board_laws.proofs.TieOrders.{rank_ties}
 
 -- ---- a single hospital crosses nothing
@@ -124,8 +126,8 @@ hospitals_make_boards doctors ranks steps groups ties = is_board ranks steps gro
 
 -- ---- the plain market
 
-flat_falls : (c : ℕ) → IsFalling (replicate c (pos 0))
-flat_falls c k d lt =
+pub zeros_fall : (c : ℕ) → IsFalling (replicate c (pos 0))
+zeros_fall c k d lt =
     let zeros = All-replicate (λ z. z ≡ pos 0) c (pos 0) refl in
     let here : get_or (replicate c (pos 0)) k d ≡ pos 0 = zeros k d (omega arith) in
     let next : get_or (replicate c (pos 0)) (k + 1) d ≡ pos 0 = zeros (k + 1) d lt in
@@ -136,6 +138,61 @@ no_groups = record { sets = All-nil (λ g. IsSet g.leaves); laminar = λ i j d l
 
 pub plain_markets : PlainMarkets
 plain_markets ranks capacities lists ranked listed = record {
-  board = hospitals_make_boards (length lists) ranks (λ h. replicate (get_or capacities h 0) (pos 0)) [] (by_rank ranks) ranked (λ h lt. flat_falls (get_or capacities h 0)) no_groups (rank_ties ranks);
+  board = hospitals_make_boards (length lists) ranks (λ h. replicate (get_or capacities h 0) (pos 0)) [] (by_rank ranks) ranked (λ h lt. zeros_fall (get_or capacities h 0)) no_groups (rank_ties ranks);
   lists = listed;
 }
+
+-- ---- groups as nodes
+
+pairs_head : (R : List ℕ → List ℕ → Type 0) (x : List ℕ) (xs : List (List ℕ)) → AllPairs R (x ∷ xs) → All (R x) xs
+pairs_head R x xs h k d lt = h zero (suc k) d (omega arith) (omega arith)
+
+pairs_tail : (R : List ℕ → List ℕ → Type 0) (x : List ℕ) (xs : List (List ℕ)) → AllPairs R (x ∷ xs) → AllPairs R xs
+pairs_tail R x xs h i j d lt ll = h (suc i) (suc j) d (omega arith) (omega arith)
+
+each_set : (P : List ℕ → Type 0) (sets : List (List ℕ)) (steps : List (List ℤ)) → All P sets → All (λ g. P g.leaves) (group_nodes sets steps)
+each_set P [] steps h = All-nil (λ g. P g.leaves)
+each_set P (set ∷ sets) [] h = All-nil (λ g. P g.leaves)
+each_set P (set ∷ sets) (s ∷ steps) h =
+    All-cons (λ g. P g.leaves) (record { leaves = set; steps = s }) (group_nodes sets steps) (All-head P set sets h) (each_set P sets steps (All-tail P set sets h))
+
+each_steps : (sets : List (List ℕ)) (steps : List (List ℤ)) → All IsFalling steps → All (λ g. IsFalling g.steps) (group_nodes sets steps)
+each_steps [] steps h = All-nil (λ g. IsFalling g.steps)
+each_steps (set ∷ sets) [] h = All-nil (λ g. IsFalling g.steps)
+each_steps (set ∷ sets) (s ∷ steps) h =
+    All-cons (λ g. IsFalling g.steps) (record { leaves = set; steps = s }) (group_nodes sets steps) (All-head IsFalling s steps h) (each_steps sets steps (All-tail IsFalling s steps h))
+
+abbrev AreApart : List ℕ → List ℕ → Type 0
+AreApart A B = IsFalse (crosses A B)
+
+each_pair : (sets : List (List ℕ)) (steps : List (List ℤ)) → AllPairs AreApart sets → AllPairs (λ g h. IsFalse (crosses g.leaves h.leaves)) (group_nodes sets steps)
+each_pair [] steps h = λ i j d lt ll. absurd (omega arith)
+each_pair (set ∷ sets) [] h = λ i j d lt ll. absurd (omega arith)
+each_pair (set ∷ sets) (s ∷ steps) h =
+    AllPairs-cons (λ g h. IsFalse (crosses g.leaves h.leaves)) (record { leaves = set; steps = s }) (group_nodes sets steps)
+    (each_set (AreApart set) sets steps (pairs_head AreApart set sets h))
+    (each_pair sets steps (pairs_tail AreApart set sets h))
+
+pub accepted_markets : AcceptedMarkets
+accepted_markets ranks steps sets group_steps ties lists ranked listed falling are_sets accepted group_falling t = record {
+  board = hospitals_make_boards (length lists) ranks steps (group_nodes sets group_steps) ties ranked falling
+      (record {
+        sets = each_set IsSet sets group_steps are_sets;
+        laminar = each_pair sets group_steps ((accepted_groups sets).0 accepted).laminar;
+        concave = each_steps sets group_steps group_falling;
+      })
+      t;
+  lists = listed;
+}
+
+-- ---- the sets of the nodes
+
+sets_from : (sets : List (List ℕ)) (steps : List (List ℤ)) → length sets ≡ length steps → map (λ (n : Node). n.leaves) (group_nodes sets steps) ≡ sets
+sets_from [] steps e = refl
+sets_from (set ∷ sets) [] e = absurd (omega arith)
+sets_from (set ∷ sets) (s ∷ steps) e = ap (λ L. set ∷ L) (sets_from sets steps (omega arith))
+
+pub accepted_trees : AcceptedTrees
+accepted_trees ranks steps sets group_steps ties e =
+    map-append (λ (n : Node). n.leaves) (hospital_nodes (length ranks) steps) (group_nodes sets group_steps)
+    ∙ ap₂ (λ A B. A ++ B) (map-map (λ (n : Node). n.leaves) (hospital_node steps) (below (length ranks))) (sets_from sets group_steps e)

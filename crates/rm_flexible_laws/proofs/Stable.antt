@@ -5,6 +5,7 @@ use Rattle.std.proofs.lemmas.Bool.{cases_Bool, and_parts, or_cases, or_left, or_
 use Rattle.rm_sets.specs.Sets.{has, IsSetBelow, with_one}
 use Rattle.rm_sets.proofs.Sets.{not_both, IsIn-with_one_cases, below-all_below}
 use Rattle.rm_sets.proofs.Members.{IsSetBelow-with_one, IsIn-with_one_new, IsIn-with_one_old, IsIn-all_below, within_refl}
+use Rattle.rm_sets.proofs.Search.{from_list_all, into_list_all}
 use Rattle.rm_market.specs.Board.{Board, IsBoard, contract_count, contracts, hospital_of, is_feasible}
 use Rattle.rm_market.specs.Best.{IsBest, values_of}
 use Rattle.rm_market.specs.Stable.{Wishes, IsPlacement, IsStable, wants, owner, prefers, at}
@@ -16,7 +17,7 @@ use Rattle.rm_flexible_laws.specs.Compiled.{IsCompiled}
 use Rattle.rm_flexible_laws.proofs.Compiled.{caps_of_feasible}
 use Rattle.rm_flexible_laws.proofs.Best.{picked_best}
 use Rattle.rm_flexible_laws.proofs.Converse.{one_place, best_picked}
-use Rattle.rm_flexible_laws.proofs.CountForm.{all_members, members_all, passed_says, passed_from}
+use Rattle.rm_flexible_laws.proofs.CountForm.{passed_says, passed_from}
 
 module _ (doctors : ℕ) (b : Board) (regions : List Region) (board : IsBoard doctors b) (ok : IsRegions (contract_count b) (hospital_of b) regions) (made : IsCompiled b regions) where
   module _ (S : List ℕ) (s : IsSetBelow (contract_count b) S) (h : is_feasible b S ≡ true) where
@@ -52,7 +53,7 @@ module _ (doctors : ℕ) (b : Board) (regions : List Region) (board : IsBoard do
   unfolding has_count_form
   count_form_from_stable w S long h stable =
       let s = subst (λ n. IsSetBelow n S) long stable.placement.set in
-      members_all (λ x. not (wants w S x) || is_passed_over b regions S x) (below (contract_count b)) (λ x ix.
+      into_list_all (λ x. not (wants w S x) || is_passed_over b regions S x) (below (contract_count b)) (λ x ix.
       let lx = (below-all_below (contract_count b) (λ k. true) x ix).0 in
       ⊎_elim
       (λ yes.
@@ -70,7 +71,7 @@ module _ (doctors : ℕ) (b : Board) (regions : List Region) (board : IsBoard do
         kept = own_best S s h;
         unblocked = λ x lx wanted.
             let ln = subst (λ n. x < n) long lx in
-            let t = all_members (λ y. not (wants w S y) || is_passed_over b regions S y) (below (contract_count b)) form x (IsIn-all_below (contract_count b) (λ k. true) x ln refl) in
+            let t = from_list_all (λ y. not (wants w S y) || is_passed_over b regions S y) (below (contract_count b)) form x (IsIn-all_below (contract_count b) (λ k. true) x ln refl) in
             passed_refused S s h x ln (⊎_elim
             (λ off. absurd (not_both (not (wants w S x)) off (not_from_true (wants w S x) wanted)))
             (λ g. g)

@@ -3,22 +3,7 @@ use Rattle.std.proofs.Common.{◌≡◌, ℕ, zero, suc, ◌<◌, List, [], ◌�
 use Rattle.std.proofs.lemmas.Bool.{cond_both, and_parts, and_from}
 use Rattle.std.specs.Prelude.{filter}
 use Rattle.std.specs.List.{list_all, Contains}
-use Rattle.rm_sets.specs.Sets.{IsIn}
-use Rattle.rm_sets.proofs.Sets.{IsIn-here, IsIn-later, IsIn-cases}
-use Rattle.rm_sets.proofs.Members.{not_in_nil}
 use Rattle.rm_valuation_laws.proofs.BestOf.{Each, Occurs}
-
--- ---- a test of all members
-
-pub all_members : (p : ℕ → Bool) (S : List ℕ) → list_all p S ≡ true → (x : ℕ) → IsIn x S → p x ≡ true
-all_members p [] h x i = absurd (not_in_nil x i)
-all_members p (y ∷ S) h x i =
-    let parts = and_parts (p y) (list_all p S) h in
-    ⊎_elim (λ e. subst (λ z. p z ≡ true) (sym e) parts.0) (λ j. all_members p S parts.1 x j) (IsIn-cases x y S i)
-
-pub members_all : (p : ℕ → Bool) (S : List ℕ) → ((x : ℕ) → IsIn x S → p x ≡ true) → list_all p S ≡ true
-members_all p [] f = refl
-members_all p (y ∷ S) f = and_from (p y) (list_all p S) (f y (IsIn-here y S)) (members_all p S (λ x i. f x (IsIn-later x y S i)))
 
 -- ---- lists of sets
 

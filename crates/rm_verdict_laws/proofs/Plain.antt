@@ -10,6 +10,7 @@ use Rattle.std.specs.List.{list_all, enumerate_from, Contains}
 use Rattle.rm_sets.specs.Sets.{IsIn, IsSetBelow, with_one, all_below}
 use Rattle.rm_sets.proofs.Sets.{not_both, below-all_below, IsSetBelow-all_below}
 use Rattle.rm_sets.proofs.Members.{IsIn-all_below, IsSetBelow-with_one, IsSetBelow-smaller}
+use Rattle.rm_sets.proofs.Search.{from_list_all, into_list_all}
 use Rattle.rm_market.specs.Board.{contract_count}
 use Rattle.rm_market.specs.Best.{values_of, best_of, subsets}
 use Rattle.rm_market.specs.Stable.{IsPlacement, owner, is_listed, wants, at, prefers_place}
@@ -17,7 +18,7 @@ use Rattle.rm_market.specs.Market.{Market, IsMarket, wishes_of, listed_contracts
 use Rattle.rm_valuation_laws.proofs.BestOf.{IsPart, Occurs, each_part, part_occurs, board_best, board_only}
 use Rattle.rm_verdict_laws.proofs.Blocking.{owners_count}
 use Rattle.rm_verdict_laws.proofs.Finding.{placed_below}
-use Rattle.rm_verdict_laws.proofs.Lists.{all_members, members_all, all_occur, occur_all, each_occurs, occurs_filter, from_filter, occurs_from_Contains, Contains-from_occurs}
+use Rattle.rm_verdict_laws.proofs.Lists.{all_occur, occur_all, each_occurs, occurs_filter, from_filter, occurs_from_Contains, Contains-from_occurs}
 
 -- ---- the best subset, by test
 
@@ -54,21 +55,21 @@ is_stable_tests m S = refl
 placement_from_test : (m : Market) (S : List ℕ) → IsSetBelow (contract_count m.board) S → list_all (is_placed_well m S) S ≡ true → IsPlacement (wishes_of m) S
 placement_from_test m S sS t =
     let one : (x : ℕ) → IsIn x S → (is_listed (wishes_of m) x ≡ true) × (list_all (is_alone m S x) S ≡ true) =
-    λ x i. and_parts (is_listed (wishes_of m) x) (list_all (is_alone m S x) S) (all_members (is_placed_well m S) S t x i) in
+    λ x i. and_parts (is_listed (wishes_of m) x) (list_all (is_alone m S x) S) (from_list_all (is_placed_well m S) S t x i) in
     record {
       set = subst (λ n. IsSetBelow n S) (sym (owners_count m)) sS;
       once = λ x y i j e. ⊎_elim
           (λ same. eqb-true x y same)
           (λ other. absurd (not_both (eqb (owner (wishes_of m) x) (owner (wishes_of m) y)) (eq-eqb (owner (wishes_of m) x) (owner (wishes_of m) y) e) (not-true (eqb (owner (wishes_of m) x) (owner (wishes_of m) y)) other)))
-          (or_cases (eqb x y) (not (eqb (owner (wishes_of m) x) (owner (wishes_of m) y))) (all_members (is_alone m S x) S (one x i).1 y j));
+          (or_cases (eqb x y) (not (eqb (owner (wishes_of m) x) (owner (wishes_of m) y))) (from_list_all (is_alone m S x) S (one x i).1 y j));
       listed = λ x i. (one x i).0;
     }
 
 test_from_placement : (m : Market) (S : List ℕ) → IsPlacement (wishes_of m) S → list_all (is_placed_well m S) S ≡ true
 test_from_placement m S p =
-    members_all (is_placed_well m S) S (λ x i.
+    into_list_all (is_placed_well m S) S (λ x i.
     and_from (is_listed (wishes_of m) x) (list_all (is_alone m S x) S) (p.listed x i)
-    (members_all (is_alone m S x) S (λ y j.
+    (into_list_all (is_alone m S x) S (λ y j.
     ⊎_elim
     (λ same. or_left (eqb x y) (not (eqb (owner (wishes_of m) x) (owner (wishes_of m) y))) (eq-eqb x y (p.once x y i j (eqb-true (owner (wishes_of m) x) (owner (wishes_of m) y) same))))
     (λ other. or_right (eqb x y) (not (eqb (owner (wishes_of m) x) (owner (wishes_of m) y))) (not_from_false (eqb (owner (wishes_of m) x) (owner (wishes_of m) y)) other))
@@ -97,7 +98,7 @@ stable_from_test m S ok sS t =
       kept = best_from_test m S S ok sS q.1;
       unblocked = λ x lt want.
           let low : x < contract_count m.board = subst (λ n. x < n) (owners_count m) lt in
-          kept_out_from m S x ok sS low (all_members (is_kept_out m S) (all_contracts m) p.1 x (IsIn-all_below (contract_count m.board) (λ d. true) x low refl)) want;
+          kept_out_from m S x ok sS low (from_list_all (is_kept_out m S) (all_contracts m) p.1 x (IsIn-all_below (contract_count m.board) (λ d. true) x low refl)) want;
     }
 
 test_from_stable : (m : Market) (S : List ℕ) → IsMarket m → IsStableIn m S → is_stable m S ≡ true
@@ -106,7 +107,7 @@ test_from_stable m S ok h =
     is_stable_tests m S
     ∙ and_from (list_all (is_placed_well m S) S && bytes_eq (chosen m S) S) (list_all (is_kept_out m S) (all_contracts m))
     (and_from (list_all (is_placed_well m S) S) (bytes_eq (chosen m S) S) (test_from_placement m S h.placement) (test_from_best m S S ok sS h.kept))
-    (members_all (is_kept_out m S) (all_contracts m) (λ x i.
+    (into_list_all (is_kept_out m S) (all_contracts m) (λ x i.
     let lt = (below-all_below (contract_count m.board) (λ d. true) x i).0 in
     kept_out_test m S x ok sS lt (λ want. h.unblocked x (subst (λ n. x < n) (sym (owners_count m)) lt) want)))
 
@@ -158,7 +159,7 @@ unfolding optimal_sets
 optimal_occurs m S ok h =
     occurs_filter (is_best_liked m) (stable_sets m) S (stable_occurs m S ok h.stable)
     (occur_all (λ T. list_all (is_no_worse m S T) (doctors_of m)) (stable_sets m) (λ T o.
-    members_all (is_no_worse m S T) (doctors_of m) (λ d i.
+    into_list_all (is_no_worse m S T) (doctors_of m) (λ d i.
     let lt = (below-all_below (length m.lists) (λ k. true) d i).0 in
     not_from_false (prefers_place (wishes_of m) d (at (wishes_of m) d T) (at (wishes_of m) d S))
     (h.best_for_all T d (stable_from_occurs m T ok o) (subst (λ n. d < n) (sym (lists_count m)) lt)))))
@@ -172,7 +173,7 @@ optimal_from_occurs m S ok o =
       best_for_all = λ T d t lt.
           let low : d < length m.lists = subst (λ n. d < n) (lists_count m) lt in
           not-true (prefers_place (wishes_of m) d (at (wishes_of m) d T) (at (wishes_of m) d S))
-          (all_members (is_no_worse m S T) (doctors_of m)
+          (from_list_all (is_no_worse m S T) (doctors_of m)
           (all_occur (λ U. list_all (is_no_worse m S U) (doctors_of m)) (stable_sets m) h.1 T (stable_occurs m T ok t)) d (IsIn-all_below (length m.lists) (λ k. true) d low refl));
     }
 
