@@ -1,5 +1,5 @@
 -- Looking for a name among files, one after another.
-use Rattle.std.proofs.Common.{suc, ◌≡◌, ◌+◌, ◌<◌, ◌≤◌, ◌∙◌, ℕ, true, false, List, ◌∷◌, length, drop, get_or, Some, None, Option, cond, sym, ap, refl, add-one, drop-cons, string_bytes}
+use Rattle.std.proofs.Common.{suc, ◌≡◌, ◌+◌, ◌<◌, ◌≤◌, ◌∙◌, ℕ, true, false, List, ◌∷◌, length, drop, get_or, Some, None, cond, sym, ap, refl, add-one, drop-cons, string_bytes}
 use Rattle.std.specs.Ordering.{nat_cmp}
 use Rattle.std.specs.Cmp.Lexicographic.{slice_cmp}
 use Rattle.std.specs.Str.{bytes_eq}

@@ -1,5 +1,5 @@
 -- How files are kept in memory: in a list, in which the first of a name counts.
-use Rattle.std.specs.Prelude.{ℕ, List, map, string_bytes}
+use Rattle.std.specs.Prelude.{List, map, string_bytes}
 use Rattle.std.specs.FinMap.{from_entries}
 use Rattle.rm_base.specs.Text.{Text, Files}
 use Rattle.rm_outside.specs.declared.memory.NamedFile.{NamedFile}

@@ -1,5 +1,5 @@
 -- Shelves and sinks in memory, some of whose calls fail by their numbers.
-use Rattle.std.specs.Prelude.{ℕ, ◌==◌, ◌++◌, ◌-◌, Bool, ◌||◌, nat_lt, List, length, Option, Some, None, Result, Ok, Err, refl}
+use Rattle.std.specs.Prelude.{ℕ, ◌==◌, ◌++◌, ◌-◌, Bool, ◌||◌, nat_lt, List, length, Option, Some, Result, Ok, Err, refl}
 use Rattle.std.specs.Coded.{Coded, code_by, coded×, coded_ℕ, coded_list, coded_option}
 use Rattle.std.specs.FinMap.{insert, code}
 use Rattle.std.specs.List.{list_any}

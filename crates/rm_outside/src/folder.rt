@@ -1,6 +1,7 @@
 // A shelf over the file system.
 
-ghost use Rattle.std.specs.Prelude.{None, ◌≡◌};
+ghost use Rattle.std.specs.Prelude.{Some, None, ◌≡◌, IfSome, IfOk};
+ghost use Rattle.rm_outside.specs.Outside.{Tells};
 
 use crate::{FetchFault, Fetched, Shelf};
 use std::alloc::Global;
@@ -41,55 +42,52 @@ impl<'a, R: Files> Shelf for FolderShelf<'a, R> {
     ghost blame = { λ _. None };
 
     fn fetch(&mut self, alloc: Global, name: &str, limit: u64) -> Result<Fetched, FetchFault> {
-        match fs::open(self.rt, name) {
-            Ok(mut file) => match read_up_to(alloc, &mut file, limit) {
-                Ok(fetched) => Ok(fetched),
-                Err(FetchFault::NoMemory) => Err(FetchFault::NoMemory),
-                Err(FetchFault::Failed) => {
-                    self.faults = self.faults.saturating_add(1);
-                    Err(FetchFault::Failed)
-                }
-            },
-            Err(e) => match e.kind() {
-                io::ErrorKind::NotFound => Ok(Fetched::Absent),
-                io::ErrorKind::OutOfMemory => Err(FetchFault::NoMemory),
-                _ => {
-                    self.faults = self.faults.saturating_add(1);
-                    Err(FetchFault::Failed)
-                }
-            },
+        match read_file(self.rt, alloc, name, limit) {
+            Ok(fetched) => Ok(fetched),
+            Err(FetchFault::NoMemory) => Err(FetchFault::NoMemory),
+            Err(FetchFault::Failed) => {
+                self.faults = self.faults.saturating_add(1);
+                Err(FetchFault::Failed)
+            }
         }
     }
 }
 
-// The bytes of a reader, if they are no more than the limit. It reads at most one byte more than the limit.
-fn read_up_to<R: Read>(alloc: Global, reader: &mut R, limit: u64) -> Result<Fetched, FetchFault> {
-    let mut bytes = Vec::new(alloc);
-    let mut piece = [0u8; 65536];
-    let mut left = limit;
-    for _ in 0..u64::MAX {
-        let room = if left < 65535 {
-            left as usize + 1
-        } else {
-            65536
-        };
-        match reader.read(&mut piece[..room]) {
-            Err(e) => {
-                if e.kind() != io::ErrorKind::Interrupted {
-                    return Err(FetchFault::Failed);
-                }
-            }
-            Ok(0) => return Ok(Fetched::Bytes(bytes)),
-            Ok(n) => {
-                if n as u64 > left {
-                    return Ok(Fetched::Long);
-                }
-                left -= n as u64;
-                if bytes.extend_from_slice(&piece[..n]).is_err() {
-                    return Err(FetchFault::NoMemory);
-                }
-            }
-        }
+// The bytes of a file of the system. Only a file that is missing is absent.
+fn read_file<R: Files>(
+    rt: &R,
+    alloc: Global,
+    path: &str,
+    limit: u64,
+) -> Result<Fetched, FetchFault> {
+    match fs::open(rt, path) {
+        Ok(file) => read_up_to(alloc, file, limit),
+        Err(e) => match e.kind() {
+            io::ErrorKind::NotFound => Ok(Fetched::Absent),
+            io::ErrorKind::OutOfMemory => Err(FetchFault::NoMemory),
+            _ => Err(FetchFault::Failed),
+        },
     }
-    Err(FetchFault::Failed)
+}
+
+// The bytes of a reader, if they are no more than the limit. It reads at most one byte more than the limit.
+fn read_up_to<R: Read + Drop>(alloc: Global, reader: R, limit: u64) -> Result<Fetched, FetchFault>
+    ensures { IfSome (R.remaining reader) (λ bytes. IfOk result (Tells (Some bytes) limit)) }
+{
+    let most = limit.saturating_add(1);
+    let mut bytes = Vec::new(alloc);
+    let mut front = reader.take(most);
+    if let Err(e) = front.read_to_end(&mut bytes) {
+        return match e.kind() {
+            io::ErrorKind::OutOfMemory => Err(FetchFault::NoMemory),
+            _ => Err(FetchFault::Failed),
+        };
+    }
+    if (bytes.len() as u64) < most {
+        return Ok(Fetched::Bytes(bytes));
+    }
+    if limit < most {
+        return Ok(Fetched::Long);
+    }
+    Err(FetchFault::NoMemory)
 }

@@ -36,18 +36,10 @@ impl<W: Write + Drop> Sink for StreamSink<W> {
     ghost faults = { λ s. s };
 
     fn put(&mut self, piece: &[u8]) -> Result<(), PutFault> {
-        match self.writer.write_all(piece) {
-            Ok(()) => match self.writer.flush() {
-                Ok(()) => Ok(()),
-                Err(_) => {
-                    self.faults = self.faults.saturating_add(1);
-                    Err(PutFault::Failed)
-                }
-            },
-            Err(_) => {
-                self.faults = self.faults.saturating_add(1);
-                Err(PutFault::Failed)
-            }
+        if self.writer.write_all(piece).is_err() || self.writer.flush().is_err() {
+            self.faults = self.faults.saturating_add(1);
+            return Err(PutFault::Failed);
         }
+        Ok(())
     }
 }
