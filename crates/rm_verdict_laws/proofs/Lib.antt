@@ -7,6 +7,7 @@ mod Sorted
 mod Full
 mod BestSwap
 pub mod Certificate
+pub mod OneCertificate
 mod Blocking
 pub mod Finding
 mod Lists

@@ -11,7 +11,7 @@ use Rattle.rm_market.specs.Tree.{put, in_order}
 abbrev pub Before : (ℕ → ℕ → Bool) → ℕ → ℕ → Type 0
 Before first x y = (x ≡ y) ⊎ (first x y ≡ true)
 
--- among the numbers of one kind the test is a strict order, and total
+-- among the numbers of one kind the test is transitive and total
 pub record IsOrderOf (P : ℕ → Type 0) (first : ℕ → ℕ → Bool) : Type 0 where
   pub transitive : (x y z : ℕ) → P x → P y → P z → first x y ≡ true → first y z ≡ true → first x z ≡ true
   pub total : (x y : ℕ) → P x → P y → (x ≡ y) ⊎ ((first x y ≡ true) ⊎ (first y x ≡ true))

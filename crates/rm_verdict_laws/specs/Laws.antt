@@ -7,6 +7,7 @@ use Rattle.rm_market.specs.Best.{values_of, IsBest}
 use Rattle.rm_market.specs.Stable.{IsPlacement}
 use Rattle.rm_market.specs.Market.{Market, wishes_of, IsStableIn, IsOptimalIn, is_stable, stable_sets, optimal_sets}
 use Rattle.rm_market.specs.Certificate.{verdict_of, certificate, finding_of}
+use Rattle.rm_market.specs.declared.CertRow.{CertRow}
 use Rattle.rm_market.specs.declared.Finding.{Finding}
 use Rattle.rm_market.specs.declared.Finding.TheVariants as findings
 use Rattle.rm_market.specs.declared.Verdict.{Verdict}
@@ -27,9 +28,10 @@ BestWhereBest b = (X S : List ℕ) → IsSetBelow (contract_count b) X → IsSet
 abbrev pub OverWhereInfeasible : Board → List ℕ → Type 0
 OverWhereInfeasible b S = IsFalse (is_feasible b S) ↔ ((k : ℕ) × IsLeastOver b S k)
 
--- each row says what holds, where S is feasible, as the best subset of the offers is
+-- the rows of a certificate are those that say what holds, where S is feasible, as the best subset of the offers is
 abbrev pub RowsHold : Board → Type 0
-RowsHold b = (S offers : List ℕ) → IsSetBelow (contract_count b) S → IsTrue (is_feasible b S) → ((x : ℕ) → IsIn x offers → x < contract_count b) → AreRowsOf b S offers (certificate b offers S)
+RowsHold b = (S offers : List ℕ) (rows : List CertRow) → IsSetBelow (contract_count b) S → IsTrue (is_feasible b S) → ((x : ℕ) → IsIn x offers → x < contract_count b)
+    → (certificate b offers S ≡ rows) ↔ AreRowsOf b S offers rows
 
 -- the finding on a placement is the one that says what holds
 abbrev pub FindingsHold : Market → Type 0

@@ -15,8 +15,8 @@ pub fn verdicts()
     ensures over { (b : Board) (S : List ℕ) → OverWhereInfeasible b S }
 {}
 
-/// Each row of a certificate holds of its contract: what the set loses without it; or what it gains with it, or the innermost full
-/// node that keeps it out, and the best swap for it.
+/// Each row of a certificate holds of its contract, and no other one does: what the set loses without it; or what it gains with it, or
+/// the innermost full node that keeps it out, and the best swap for it.
 pub fn certificates()
     ensures { (doctors : ℕ) (b : Board) → IsBoard doctors b → RowsHold b }
 {}

@@ -1,5 +1,5 @@
-use Rattle.rm_verdict_laws.proofs.Certificate.{rows_say}
+use Rattle.rm_verdict_laws.proofs.OneCertificate.{certificate_says}
 use Rattle.rm_verdict_laws.proofs.certificates.Goals as goal
 
 pub returns : goal.returns
-returns c = λ doctors b ok S offers. rows_say doctors b S offers ok
+returns c = λ doctors b ok S offers rows. certificate_says doctors b S offers rows ok
