@@ -7,7 +7,8 @@ use Rattle.std.proofs.lemmas.Bool.{cases_lt, cases_eq}
 use Rattle.std.proofs.lemmas.Bool.Decides.{nat_tests}
 use Rattle.std.proofs.lemmas.List.{take_more, length-take-le, length-map, get_or-map, take_all, drop_all, drop-append-le, map-set, set-get_or, get_or-replicate, get_or_past, get_or_read, get_or-set_same, get_or-set_other, length-replicate}
 use Rattle.std.proofs.lemmas.List.Elements.{All-take, All-drop, All-map, All-nil, All-replicate, All-set, All-weaker, All-push}
-use Rattle.std.proofs.lemmas.List.Folds.{list_any-append}
+use Rattle.std.proofs.lemmas.List.Folds.{list_any-append, sum_by-replicate}
+use Rattle.std.proofs.lemmas.List.Sums.{sum_by-set}
 use Rattle.rm_ranks.specs.declared.packed.Span.{Span}
 use Rattle.rm_ranks.specs.Packed.{part, lists_of}
 use Rattle.rm_ranks.specs.Builder.{IsBuilt, AreBuilt}
@@ -30,14 +31,16 @@ pub no-lists : (n : ℕ) → lists_of [] (replicate n no_span) ≡ replicate n [
 no-lists zero = refl
 no-lists (suc n) = ap (λ (ls : List (List ℕ)). [] ∷ ls) (no-lists n)
 
-pub none-built : (n m : ℕ) → n < 2 ^ 32 → AreBuilt [] (replicate n no_span) (replicate n None) (replicate m 0) None
+pub none-built : (n m limit : ℕ) → n < 2 ^ 32 → AreBuilt [] (replicate n no_span) (replicate n None) (replicate m 0) None limit
 unfolding IsDistinct
-none-built n m few = record {
+none-built n m limit few = record {
   few = omega (arith, length-replicate n no_span);
   marked = length-replicate {A = Option ℕ} n None ∙ sym (length-replicate n no_span);
   each = All-replicate (IsBuilt []) n no_span (record { forward = omega arith; within = omega arith; distinct = tt });
   unbegun = λ i none. part-nil (get_or (replicate n no_span) i no_span);
   ends = tt;
+  total = rw (no-lists n, sum_by-replicate {X = List ℕ} length n []) (omega arith);
+  room = omega arith;
   below = All-nil (λ x. x < length (replicate m 0));
   places = λ x s lt.
       let none : list_any (λ y. y == x) (drop s []) ≡ false = rw (drop_all {X = ℕ} s [] (omega arith)) refl in
@@ -46,17 +49,45 @@ none-built n m few = record {
 
 -- ---- a list is begun
 
+some-is : (o : Option ℕ) → IsSome o → o ≡ None → ⊥
+some-is o there none = false≢true (rw none at there)
+
 list-at : (items : List ℕ) (spans : List Span) (i : ℕ) (s : Span) → i < length spans → get_or (lists_of items spans) i [] ≡ part items (get_or spans i s)
 list-at items spans i s lt = get_or-map (part items) spans i s [] lt
 
 pub lists-begun :
-    (items : List ℕ) (spans : List Span) (marks : List (Option ℕ)) (last : List ℕ) (at : Option ℕ) → AreBuilt items spans marks last at →
+    (items : List ℕ) (spans : List Span) (marks : List (Option ℕ)) (last : List ℕ) (at : Option ℕ) (limit : ℕ) → AreBuilt items spans marks last at limit →
     (i n : ℕ) → i < length spans → get_or marks i None ≡ None → lists_of items (set spans i (record { start = n; end = n })) ≡ lists_of items spans
-lists-begun items spans marks last at built i n lt none =
+lists-begun items spans marks last at limit built i n lt none =
     let zero-is : n - n ≡ 0 = omega arith in
     let e : part items (record { start = n; end = n }) ≡ [] = ap (λ (k : ℕ). take k (drop n items)) zero-is in
     let was : get_or (lists_of items spans) i [] ≡ [] = list-at items spans i no_span lt ∙ built.unbegun i none in
     map-set (part items) spans i (record { start = n; end = n }) ∙ ap (λ (l : List ℕ). set (lists_of items spans) i l) (e ∙ sym was) ∙ set-get_or (lists_of items spans) i []
+
+pub list-built :
+    (items : List ℕ) (spans : List Span) (marks : List (Option ℕ)) (last : List ℕ) (at : Option ℕ) (limit : ℕ) → AreBuilt items spans marks last at limit →
+    (i n mark : ℕ) → i < length spans → get_or marks i None ≡ None → n ≡ length items →
+    AreBuilt items (set spans i (record { start = n; end = n })) (set marks i (Some mark)) last (Some i) limit
+unfolding IsDistinct
+list-built items spans marks last at limit built i n mark lt none n-is =
+    let span : Span = record { start = n; end = n } in
+    let zero-is : n - n ≡ 0 = omega arith in
+    let empty : part items span ≡ [] = ap (λ (k : ℕ). take k (drop n items)) zero-is in
+    let marked : i < length marks = omega (arith, built.marked) in
+    record {
+      few = omega (arith, built.few, length-set spans i span);
+      marked = omega (arith, built.marked, length-set spans i span, length-set marks i (Some mark));
+      each = All-set (IsBuilt items) spans i span (record { forward = omega arith; within = omega (arith, n-is); distinct = rw empty tt }) built.each;
+      unbegun = λ k absent. elim (cases_eq k i) [
+        | inl same ↦ absurd (some-is (Some mark) refl (sym (get_or-set_same marks i (Some mark) None marked) ∙ rw same at absent))
+        | inr other ↦ rw (get_or-set_other spans i k span no_span other) (built.unbegun k (rw (get_or-set_other marks i k (Some mark) None other) at absent))
+      ];
+      ends = (omega (arith, length-set spans i span), λ t. ap (λ (q : Span). q.end) (get_or-set_same spans i span t lt) ∙ n-is, rw (get_or-set_same marks i (Some mark) None marked) refl);
+      total = rw (lists-begun items spans marks last at limit built i n lt none) built.total;
+      room = built.room;
+      below = built.below;
+      places = built.places;
+    }
 
 -- ---- one item more
 
@@ -91,10 +122,7 @@ places-push items last item n n-is within places x s lt = elim (cases_lt (length
       ])
 ]
 
-some-is : (o : Option ℕ) → IsSome o → o ≡ None → ⊥
-some-is o there none = false≢true (rw none at there)
-
-module _ (items : List ℕ) (spans : List Span) (marks : List (Option ℕ)) (last : List ℕ) (at : ℕ) (built : AreBuilt items spans marks last (Some at)) (s : Span) (here : s ≡ get_or spans at s) where
+module _ (items : List ℕ) (spans : List Span) (marks : List (Option ℕ)) (last : List ℕ) (at limit : ℕ) (built : AreBuilt items spans marks last (Some at) limit) (s : Span) (here : s ≡ get_or spans at s) where
   to-end : s.end ≡ length items
   to-end = rw (← here) at (built.ends.1 s)
 
@@ -134,9 +162,9 @@ module _ (items : List ℕ) (spans : List Span) (marks : List (Option ℕ)) (las
       map-set (part (items ++ item ∷ [])) spans at (record { start = s.start; end = n })
       ∙ rw (lists-grown items (item ∷ []) spans each-within, grown-part item n n-is, ← last-is) refl
 
-  pub item-built : (item n : ℕ) → n ≡ length items + 1 → item < length last → list_any (λ x. x == item) (get_or (lists_of items spans) at []) ≡ false →
-      AreBuilt (items ++ item ∷ []) (set spans at (record { start = s.start; end = n })) marks (set last item n) (Some at)
-  item-built item n n-is lt new =
+  pub item-built : (item n : ℕ) → n ≡ length items + 1 → item < length last → length items < limit → list_any (λ x. x == item) (get_or (lists_of items spans) at []) ≡ false →
+      AreBuilt (items ++ item ∷ []) (set spans at (record { start = s.start; end = n })) marks (set last item n) (Some at) limit
+  item-built item n n-is lt room new =
       let span : Span = record { start = s.start; end = n } in
       let longer = length-append items (item ∷ []) in
       let all = λ (t : Span) (b : IsBuilt items t). let w : IsWithin (length items) t = record { forward = b.forward; within = b.within } in
@@ -155,6 +183,11 @@ module _ (items : List ℕ) (spans : List Span) (marks : List (Option ℕ)) (las
           | inr other ↦ rw (get_or-set_other spans at i span no_span other, part-grown items (item ∷ []) (get_or spans i no_span) (within-at i)) (built.unbegun i none)
         ];
         ends = (omega (arith, built.ends.0, length-set spans at span), λ t. let long : n ≡ length (items ++ item ∷ []) = omega (arith, longer) in ap (λ (q : Span). q.end) (get_or-set_same spans at span t built.ends.0) ∙ long, built.ends.2);
+        total =
+            let old = get_or (lists_of items spans) at [] in
+            let within : at < length (lists_of items spans) = omega (arith, built.ends.0, length-map spans (part items)) in
+            rw (lists-item item n n-is) (omega (arith, sum_by-set length (lists_of items spans) at (old ++ item ∷ []) [] within, length-append old (item ∷ []), longer, built.total));
+        room = omega (arith, longer, room);
         below = rw (length-set last item n) (All-push (λ x. x < length last) items item built.below lt);
         places = λ x p within. let lt-x : x < length last = rw (length-set last item n) at within in places-push items last item n n-is lt built.places x p lt-x;
       }

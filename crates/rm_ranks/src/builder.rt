@@ -1,6 +1,7 @@
 // Lists that are built item by item.
 
-ghost use Rattle.std.specs.Prelude.{◌≡◌, ◌<◌, [], ℕ, length, replicate, All, None, IsSome, IfOk};
+ghost use Rattle.std.specs.Prelude.{◌≡◌, ◌<◌, ◌≤◌, [], ℕ, length, replicate, All, None, IsSome, IfOk};
+ghost use Rattle.std.specs.List.{sum_by};
 ghost use Rattle.rm_ranks.specs.Built.{ListsTold};
 ghost use Rattle.rm_ranks.specs.Builder.{Begins, Pushes};
 
@@ -44,7 +45,7 @@ impl Model for ListsBuilder {
 
     ghost view = { λ b. record { lists = lists_of b.items.items b.spans.items; marks = b.marks.items; at = b.at; held = length b.items.items; items = length b.last.items; limit = b.limit } };
 
-    ghost invariant = { λ b. AreBuilt b.items.items b.spans.items b.marks.items b.last.items b.at };
+    ghost invariant = { λ b. AreBuilt b.items.items b.spans.items b.marks.items b.last.items b.at b.limit };
 }
 
 impl ListsBuilder {
@@ -108,6 +109,7 @@ impl ListsBuilder {
     pub fn finish(self, alloc: Global) -> Result<Lists, NoMemory>
         ensures lists { IfOk result (λ lists. lists ≡ self.lists) }
         ensures below { All (All (λ x. x < self.items)) self.lists }
+        ensures held { (sum_by length self.lists ≡ self.held) × (self.held ≤ self.limit) }
     {
         let mut packed = Packed::new(alloc);
         for span in &self.spans {

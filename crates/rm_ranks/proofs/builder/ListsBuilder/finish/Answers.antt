@@ -24,3 +24,9 @@ loop-span-preserved c =
 
 pub returns-clause-below : goal.returns-clause-below
 returns-clause-below c = rw (← c.self.view_is) (lists-below c.self.inside.items.items c.self.inside.spans.items _ c.self.invariant.below)
+
+pub returns-in_err-push-clause-held : goal.returns-in_err-push-clause-held
+returns-in_err-push-clause-held c = rw (← c.self.view_is) (c.self.invariant.total, c.self.invariant.room)
+
+pub returns-clause-held : goal.returns-clause-held
+returns-clause-held c = rw (← c.self.view_is) (c.self.invariant.total, c.self.invariant.room)

@@ -8,7 +8,7 @@ invariant_of-result c =
     let spans = c.in_ok-vec.ensures.items_if_clones_equal (λ y h. h) in
     let marks = c.in_ok-vec-2.ensures.items_if_clones_equal (λ y h. search rules) in
     let last = c.in_ok-vec-3.ensures.items_if_clones_equal (λ y h. h) in
-    rw (c.new.ensures.items, spans, marks, last) (none-built c.args.lists c.args.items (omega (arith, c.ranges.lists.fits)))
+    rw (c.new.ensures.items, spans, marks, last) (none-built c.args.lists c.args.items c.args.limit (omega (arith, c.ranges.lists.fits)))
 
 pub returns : goal.returns
 returns c =
