@@ -15,9 +15,6 @@ use Rattle.rm_flexible_laws.proofs.Tests.{all_at, at_all}
 
 -- ---- pairs of turns, and turn numbers
 
-abbrev seat_with : ℕ → Seat
-seat_with t = record { hospital = 0; target = t; capacity = 0 }
-
 turn_pair_low : (s : Seat) (p k : ℕ) → k ≤ s.target → seat_turn s p k ≡ (0, 0)
 turn_pair_low s p k le = ap (λ c. cond c (0, 0) (k - s.target, p)) (le-leb k s.target le)
 
