@@ -9,7 +9,8 @@ use Rattle.rm_sets.proofs.Sets.{not_both, same_tests, IsIn-here, IsIn-later, IsI
 use Rattle.rm_sets.proofs.Members.{not_in_nil, IsIn-filter, IsIn-from_filter}
 use Rattle.rm_market.specs.Board.{Board, hospital_of}
 use Rattle.rm_market.specs.Flexible.{Seat, Region, at_hospital, seat_turn, is_later, held_at, held_turns, region_count, has_no_seat, is_full, is_passed_over}
-use Rattle.rm_flexible_laws.specs.Region.{no_seat, seat_at, no_region, region_at, IsPlace, count_at, turn_number, turn_of, IsFull, IsPassed}
+use Rattle.rm_flexible_laws.specs.Region.{no_seat, seat_at, no_region, region_at, IsPlace}
+use Rattle.rm_flexible_laws.proofs.ByCounts.{count_at, turn_number, turn_of, IsFull, IsPassed}
 use Rattle.rm_flexible_laws.proofs.Keys.{turn_low, turn_high, past, rows, turn_rises}
 use Rattle.rm_flexible_laws.proofs.Tests.{all_at, at_all}
 
@@ -182,7 +183,7 @@ module _ (b : Board) (r : Region) (S : List ℕ) (j : ℕ) (lj : j < length r.se
 
 -- ---- a contract that is passed over
 
-module _ (b : Board) (regions : List Region) (n : ℕ) (one_place : (h i j k l : ℕ) → IsPlace regions h i j → IsPlace regions h k l → (i ≡ k) × (j ≡ l)) (S : List ℕ) (x i j : ℕ) (p : IsPlace regions (hospital_of b x) i j) where
+module _ (b : Board) (regions : List Region) (one_place : (h i j k l : ℕ) → IsPlace regions h i j → IsPlace regions h k l → (i ≡ k) × (j ≡ l)) (S : List ℕ) (x i j : ℕ) (p : IsPlace regions (hospital_of b x) i j) where
   entry : (k l : ℕ) → l < length (region_at regions k).seats → get_or (enumerate_from 1 (region_at regions k).seats) l (0, no_seat) ≡ (1 + l, seat_at (region_at regions k) l)
   entry k l lt = get_or-enumerate_from 1 (region_at regions k).seats l (0, no_seat) lt
 

@@ -10,7 +10,8 @@ use Rattle.rm_sets.proofs.Sets.{IsSet-filter, IsSet-tail, IsSet-first, IsIn-here
 use Rattle.rm_sets.proofs.Members.{IsIn-filter, IsIn-from_filter, within-filter}
 use Rattle.rm_valuation_laws.proofs.Counts.{one, count-cons, count_or, count_none, count_same, count-with_one, count-without, picked}
 use Rattle.rm_market.specs.Flexible.{Seat, Region}
-use Rattle.rm_flexible_laws.specs.Region.{no_seat, IsRegion, count_at, count_in, is_of}
+use Rattle.rm_flexible_laws.specs.Region.{no_seat, IsRegion}
+use Rattle.rm_flexible_laws.proofs.ByCounts.{count_at, count_in, is_of}
 use Rattle.rm_flexible_laws.proofs.Tests.{at_any}
 
 -- ---- one contract more or less

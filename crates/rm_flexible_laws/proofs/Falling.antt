@@ -4,7 +4,7 @@ use Rattle.std.proofs.lemmas.Int.{ints}
 use Rattle.std.proofs.lemmas.List.FromFn.{get_or-map-range_with_len, length-map-range_with_len}
 use Rattle.rm_market.specs.Board.{IsFalling}
 use Rattle.rm_market.specs.Flexible.{Seat, Region, seat_worth, full_worth, seat_steps}
-use Rattle.rm_flexible_laws.specs.Region.{turn_number}
+use Rattle.rm_flexible_laws.proofs.ByCounts.{turn_number}
 use Rattle.rm_flexible_laws.proofs.Keys.{turn_rises}
 
 worth-turn : (w m j t k : ℕ) → seat_worth w m (j + 1) t k ≡ pos w -ℤ pos (turn_number m j t k)

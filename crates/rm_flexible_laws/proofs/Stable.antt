@@ -11,11 +11,13 @@ use Rattle.rm_market.specs.Stable.{Wishes, IsPlacement, IsStable, wants, owner, 
 use Rattle.rm_market.specs.Tree.{below}
 use Rattle.rm_market.specs.Flexible.{Region, has_count_form, is_passed_over}
 use Rattle.rm_market.specs.Market.{Market, IsMarket, IsStableIn, wishes_of}
-use Rattle.rm_flexible_laws.specs.Region.{region_at, IsRegions, IsPlace, IsPassed}
+use Rattle.rm_flexible_laws.specs.Region.{region_at, IsRegions, IsPlace}
+use Rattle.rm_flexible_laws.proofs.ByCounts.{IsPassed}
 use Rattle.rm_flexible_laws.specs.Compiled.{IsCompiled}
 use Rattle.rm_flexible_laws.proofs.Compiled.{caps_of_feasible}
 use Rattle.rm_flexible_laws.proofs.Best.{picked_best}
-use Rattle.rm_flexible_laws.proofs.Converse.{one_place, best_picked}
+use Rattle.rm_flexible_laws.proofs.Pick.{one_place}
+use Rattle.rm_flexible_laws.proofs.Converse.{best_picked}
 use Rattle.rm_flexible_laws.proofs.CountForm.{all_members, members_all, passed_says, passed_from}
 
 module _ (doctors : ℕ) (b : Board) (regions : List Region) (board : IsBoard doctors b) (ok : IsRegions (contract_count b) (hospital_of b) regions) (made : IsCompiled b regions) where
@@ -38,7 +40,7 @@ module _ (doctors : ℕ) (b : Board) (regions : List Region) (board : IsBoard do
       passed = λ y i j iy out p. ⊎_elim
           (λ old. absurd (not_both (has y S) old out))
           (λ same. subst (λ z. IsPassed (hospital_of b) (region_at regions i) S j z) (sym same)
-          (passed_says b regions doctors (one_place doctors b regions board ok made) S x i j (subst (λ z. IsPlace regions (hospital_of b z) i j) same p) passed))
+          (passed_says b regions (one_place (contract_count b) (hospital_of b) regions ok) S x i j (subst (λ z. IsPlace regions (hospital_of b z) i j) same p) passed))
           (IsIn-with_one_cases y S x iy);
     })
 
@@ -46,7 +48,7 @@ module _ (doctors : ℕ) (b : Board) (regions : List Region) (board : IsBoard do
     refused_passed x lx out best =
         let p = ok.all x lx in
         let pick = best_picked doctors b regions board ok made (with_one S x) S (IsSetBelow-with_one (contract_count b) S x s lx) best in
-        passed_from b regions doctors (one_place doctors b regions board ok made) S x p.0 p.1 p.2 (pick.passed x p.0 p.1 (IsIn-with_one_new S x) out p.2)
+        passed_from b regions (one_place (contract_count b) (hospital_of b) regions ok) S x p.0 p.1 p.2 (pick.passed x p.0 p.1 (IsIn-with_one_new S x) out p.2)
 
   pub count_form_from_stable : (w : Wishes) (S : List ℕ) → length w.owners ≡ contract_count b → is_feasible b S ≡ true → IsStable (IsBest (values_of b)) w S → has_count_form b regions w S ≡ true
   unfolding has_count_form
