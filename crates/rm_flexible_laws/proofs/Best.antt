@@ -20,7 +20,8 @@ use Rattle.rm_valuation_laws.proofs.Market.{market_board_laws}
 use Rattle.rm_market.specs.Board.{Board, IsBoard, contract_count, hospital_of, is_feasible, worth, stands_before}
 use Rattle.rm_market.specs.Best.{Values, is_better, IsBest, IsValuation, values_of, swapped}
 use Rattle.rm_market.specs.Flexible.{Region}
-use Rattle.rm_flexible_laws.specs.Region.{seat_at, region_at, IsRegions, IsPlace, count_at, is_of, IsPicked}
+use Rattle.rm_flexible_laws.specs.Region.{seat_at, region_at, IsRegions, IsPlace}
+use Rattle.rm_flexible_laws.proofs.ByCounts.{count_at, is_of, IsPickedBy}
 use Rattle.rm_flexible_laws.specs.Compiled.{IsCompiled}
 use Rattle.rm_flexible_laws.proofs.Counts.{passing-with_one, passing-without, passing_positive}
 use Rattle.rm_flexible_laws.proofs.Pick.{place_of, of_place}
@@ -138,7 +139,7 @@ module _ (doctors : ℕ) (b : Board) (regions : List Region) (board : IsBoard do
 
   -- ---- what is picked is the best
 
-  module _ (X S : List ℕ) (sX : IsSetBelow (contract_count b) X) (p : IsPicked (hospital_of b) regions X S) where
+  module _ (X S : List ℕ) (sX : IsSetBelow (contract_count b) X) (p : IsPickedBy (hospital_of b) regions X S) where
     below_S : IsSetBelow (contract_count b) S
     below_S = IsSetBelow-smaller (contract_count b) S X sX p.set p.within
 

@@ -14,7 +14,8 @@ use Rattle.rm_valuation_laws.proofs.LaminarExchange.{caps_from_feasible, feasibl
 use Rattle.rm_valuation_laws.proofs.Change.{worth_added}
 use Rattle.rm_market.specs.Board.{Board, Node, contract_count, hospital_of, count, is_feasible, worth, node_at, no_node}
 use Rattle.rm_market.specs.Flexible.{Region, seat_worth, greatest_capacity_of, full_worth, seat_steps}
-use Rattle.rm_flexible_laws.specs.Region.{no_seat, seat_at, region_at, IsRegions, IsPlace, count_at, count_in, is_of, turn_of, IsInCaps}
+use Rattle.rm_flexible_laws.specs.Region.{no_seat, seat_at, region_at, IsRegions, IsPlace}
+use Rattle.rm_flexible_laws.proofs.ByCounts.{count_at, count_in, is_of, turn_of, IsInCaps}
 use Rattle.rm_flexible_laws.specs.Compiled.{IsSeatNode, IsCapNode, IsCompiled}
 use Rattle.rm_flexible_laws.proofs.Keys.{turn_bound}
 use Rattle.rm_flexible_laws.proofs.Tests.{sums_le}

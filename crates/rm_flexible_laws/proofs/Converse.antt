@@ -13,25 +13,18 @@ use Rattle.rm_valuation_laws.proofs.GreedySteps.{unimproved_from_best}
 use Rattle.rm_market.specs.Board.{Board, IsBoard, contract_count, hospital_of, is_feasible, worth}
 use Rattle.rm_market.specs.Best.{is_better, IsBest, values_of, swapped}
 use Rattle.rm_market.specs.Flexible.{Region}
-use Rattle.rm_flexible_laws.specs.Region.{no_seat, seat_at, region_at, IsRegions, IsPlace, count_at, count_in, is_of, turn_of, IsPassed, IsPicked}
+use Rattle.rm_flexible_laws.specs.Region.{no_seat, seat_at, region_at, IsRegions, IsPlace}
+use Rattle.rm_flexible_laws.proofs.ByCounts.{count_at, count_in, is_of, turn_of, IsPassed, IsPickedBy}
 use Rattle.rm_flexible_laws.specs.Compiled.{IsCompiled}
 use Rattle.rm_flexible_laws.proofs.Keys.{turn_low, turn_grows, turns_apart, turn_positive, past_from_turn}
 use Rattle.rm_flexible_laws.proofs.Tests.{some_less}
 use Rattle.rm_flexible_laws.proofs.Counts.{count_in-sum, passing-with_one, passing_member}
 use Rattle.rm_flexible_laws.proofs.First.{seats_one}
-use Rattle.rm_flexible_laws.proofs.Pick.{of_seat, region_ok, of_place, one_region}
+use Rattle.rm_flexible_laws.proofs.Pick.{one_place, of_seat, region_ok, of_place, one_region}
 use Rattle.rm_flexible_laws.proofs.Compiled.{value, value_less, value_positive, caps_of_feasible, feasible_of_caps, worth_with}
 use Rattle.rm_flexible_laws.proofs.Best.{before, same_worth, swap_worths, passing-swapped, greater_better}
 
 module _ (doctors : ℕ) (b : Board) (regions : List Region) (board : IsBoard doctors b) (ok : IsRegions (contract_count b) (hospital_of b) regions) (made : IsCompiled b regions) where
-  -- a hospital has one seat
-  pub one_place : (h i j k l : ℕ) → IsPlace regions h i j → IsPlace regions h k l → (i ≡ k) × (j ≡ l)
-  one_place h i j k l p q =
-      let same = ok.one h i j k l p q in
-      let lj = subst (λ z. l < length (region_at regions z).seats) (sym same) q.seat in
-      let e : (seat_at (region_at regions i) l).hospital ≡ h = subst (λ z. (seat_at (region_at regions z) l).hospital ≡ h) (sym same) q.hospital in
-      (same, seats_one (region_at regions i) (region_ok (contract_count b) (hospital_of b) regions ok i p.region) j l p.seat lj (p.hospital ∙ sym e))
-
   -- the counts after x comes into the place of z, where x has a seat left and its region has room or z
   module _ (S : List ℕ) (s : IsSetBelow (contract_count b) S) (hS : is_feasible b S ≡ true) (x : ℕ) (lx : x < contract_count b) (out : has x S ≡ false) (i j : ℕ) (p : IsPlace regions (hospital_of b x) i j) where
     swap_fits : (z : ℕ) → IsIn z S →
@@ -58,7 +51,7 @@ module _ (doctors : ℕ) (b : Board) (regions : List Region) (board : IsBoard do
               ⊎_elim
               (λ yes.
               let at : h ≡ hospital_of b x = sym (eqb-true (hospital_of b x) h yes) in
-              let one' = one_place (hospital_of b x) k l i j (record { region = lk; seat = ll; hospital = at }) p in
+              let one' = one_place (contract_count b) (hospital_of b) regions ok (hospital_of b x) k l i j (record { region = lk; seat = ll; hospital = at }) p in
               let ox = ap one yes in
               ⊎_elim
               (λ same. let oz : one (eqb (hospital_of b z) h) ≡ 1 = ap one (eq-eqb (hospital_of b z) h (same ∙ sym at)) in omega arith)
@@ -92,7 +85,7 @@ module _ (doctors : ℕ) (b : Board) (regions : List Region) (board : IsBoard do
               ⊎_elim
               (λ yes.
               let at : h ≡ hospital_of b x = sym (eqb-true (hospital_of b x) h yes) in
-              let one' = one_place (hospital_of b x) k l i j (record { region = lk; seat = ll; hospital = at }) p in
+              let one' = one_place (contract_count b) (hospital_of b) regions ok (hospital_of b x) k l i j (record { region = lk; seat = ll; hospital = at }) p in
               let ox = ap one yes in
               let room' = subst₂ (λ q t. count_at (hospital_of b) (seat_at (region_at regions q) t) S < (seat_at (region_at regions q) t).capacity) (sym one'.0) (sym one'.1) room in
               omega arith)
@@ -213,7 +206,7 @@ module _ (doctors : ℕ) (b : Board) (regions : List Region) (board : IsBoard do
           r = region_at regions i
 
   -- the best subset is picked
-  pub best_picked : (X S : List ℕ) → IsSetBelow (contract_count b) X → IsBest (values_of b) X S → IsPicked (hospital_of b) regions X S
+  pub best_picked : (X S : List ℕ) → IsSetBelow (contract_count b) X → IsBest (values_of b) X S → IsPickedBy (hospital_of b) regions X S
   best_picked X S sX best =
       let u = unimproved_from_best (values_of b) X S best in
       let s = IsSetBelow-smaller (contract_count b) S X sX best.set best.within in

@@ -4,19 +4,17 @@ use Rattle.std.specs.List.{list_all, range_with_len, enumerate_from}
 use Rattle.std.proofs.lemmas.Bool.{cases_lt, cases_eq, cases_order, and_parts, and_from, or_cases, or_left, or_right, lt-ltb, le-ltb, ltb-true, le-leb, lt-leb, not_from_false, not_from_true}
 use Rattle.std.proofs.lemmas.List.Folds.{list_all-append, list_all-map}
 use Rattle.std.proofs.lemmas.List.FromFn.{length-enumerate_from, get_or-enumerate_from, length-range_with_len, get_or-range_with_len}
-use Rattle.rm_sets.proofs.Sets.{not_both, same_tests}
-use Rattle.rm_sets.proofs.Members.{IsIn-filter, IsIn-from_filter}
-use Rattle.rm_sets.proofs.Search.{from_list_all, into_list_all}
+use Rattle.rm_sets.specs.Sets.{IsIn}
+use Rattle.rm_sets.proofs.Sets.{not_both, same_tests, IsIn-here, IsIn-later, IsIn-cases}
+use Rattle.rm_sets.proofs.Members.{not_in_nil, IsIn-filter, IsIn-from_filter}
 use Rattle.rm_market.specs.Board.{Board, hospital_of}
 use Rattle.rm_market.specs.Flexible.{Seat, Region, at_hospital, seat_turn, is_later, held_at, held_turns, region_count, has_no_seat, is_full, is_passed_over}
-use Rattle.rm_flexible_laws.specs.Region.{no_seat, seat_at, no_region, region_at, IsPlace, count_at, turn_number, turn_of, IsFull, IsPassed}
+use Rattle.rm_flexible_laws.specs.Region.{no_seat, seat_at, no_region, region_at, IsPlace}
+use Rattle.rm_flexible_laws.proofs.ByCounts.{count_at, turn_number, turn_of, IsFull, IsPassed}
 use Rattle.rm_flexible_laws.proofs.Keys.{turn_low, turn_high, past, rows, turn_rises}
 use Rattle.rm_flexible_laws.proofs.Tests.{all_at, at_all}
 
 -- ---- pairs of turns, and turn numbers
-
-abbrev seat_with : ℕ → Seat
-seat_with t = record { hospital = 0; target = t; capacity = 0 }
 
 turn_pair_low : (s : Seat) (p k : ℕ) → k ≤ s.target → seat_turn s p k ≡ (0, 0)
 turn_pair_low s p k le = ap (λ c. cond c (0, 0) (k - s.target, p)) (le-leb k s.target le)
@@ -90,6 +88,18 @@ later-turn m s q j k a c jm km =
     let na = turn_low m j s.target a lowA in
     ap (λ t. is_later t (seat_turn q (1 + k) c)) ta ∙ (never_before (seat_turn q (1 + k) c) ∙ sym (le-ltb (turn_number m k q.target c) (turn_number m j s.target a) (omega arith))))
     (cases_lt s.target a)
+
+-- ---- tests on each member
+
+pub all_members : (p : ℕ → Bool) (L : List ℕ) → list_all p L ≡ true → (y : ℕ) → IsIn y L → p y ≡ true
+all_members p [] h y i = absurd (not_in_nil y i)
+all_members p (z ∷ L) h y i =
+    let both = and_parts (p z) (list_all p L) h in
+    ⊎_elim (λ e. ap p e ∙ both.0) (λ later. all_members p L both.1 y later) (IsIn-cases y z L i)
+
+pub members_all : (p : ℕ → Bool) (L : List ℕ) → ((y : ℕ) → IsIn y L → p y ≡ true) → list_all p L ≡ true
+members_all p [] h = refl
+members_all p (z ∷ L) h = and_from (p z) (list_all p L) (h z (IsIn-here z L)) (members_all p L (λ y i. h y (IsIn-later y z L i)))
 
 -- ---- the held turns
 
@@ -173,7 +183,7 @@ module _ (b : Board) (r : Region) (S : List ℕ) (j : ℕ) (lj : j < length r.se
 
 -- ---- a contract that is passed over
 
-module _ (b : Board) (regions : List Region) (n : ℕ) (one_place : (h i j k l : ℕ) → IsPlace regions h i j → IsPlace regions h k l → (i ≡ k) × (j ≡ l)) (S : List ℕ) (x i j : ℕ) (p : IsPlace regions (hospital_of b x) i j) where
+module _ (b : Board) (regions : List Region) (one_place : (h i j k l : ℕ) → IsPlace regions h i j → IsPlace regions h k l → (i ≡ k) × (j ≡ l)) (S : List ℕ) (x i j : ℕ) (p : IsPlace regions (hospital_of b x) i j) where
   entry : (k l : ℕ) → l < length (region_at regions k).seats → get_or (enumerate_from 1 (region_at regions k).seats) l (0, no_seat) ≡ (1 + l, seat_at (region_at regions k) l)
   entry k l lt = get_or-enumerate_from 1 (region_at regions k).seats l (0, no_seat) lt
 
@@ -188,7 +198,7 @@ module _ (b : Board) (regions : List Region) (n : ℕ) (one_place : (h i j k l :
       let here : (not (eqb (seat_at r j).hospital hx) || has_no_seat b r S (1 + j) (seat_at r j)) ≡ true =
       subst (λ e. (not (eqb e.1.hospital hx) || has_no_seat b r S e.0 e.1) ≡ true) (entry i j p.seat) at in
       record {
-        above = λ y iy e. ltb-true y x (from_list_all (λ z. ltb z x) (at_hospital b hx S) both.0 y (IsIn-filter (λ z. eqb (hospital_of b z) hx) S y iy (eq-eqb (hospital_of b y) hx e)));
+        above = λ y iy e. ltb-true y x (all_members (λ z. ltb z x) (at_hospital b hx S) both.0 y (IsIn-filter (λ z. eqb (hospital_of b z) hx) S y iy (eq-eqb (hospital_of b y) hx e)));
         no_seat = ⊎_elim
             (λ off. absurd (not_both (not (eqb (seat_at r j).hospital hx)) off (not_from_true (eqb (seat_at r j).hospital hx) (eq-eqb (seat_at r j).hospital hx p.hospital))))
             (λ g. no_seat_says b r S j p.seat g)
@@ -199,7 +209,7 @@ module _ (b : Board) (regions : List Region) (n : ℕ) (one_place : (h i j k l :
   passed_from d =
       let hx = hospital_of b x in
       and_from (list_all (λ y. ltb y x) (at_hospital b hx S)) (list_all (λ q. is_full b q S hx) regions)
-      (into_list_all (λ z. ltb z x) (at_hospital b hx S) (λ y iy.
+      (members_all (λ z. ltb z x) (at_hospital b hx S) (λ y iy.
       let a = IsIn-from_filter (λ z. eqb (hospital_of b z) hx) S y iy in
       lt-ltb y x (d.above y a.0 (eqb-true (hospital_of b y) hx a.1))))
       (at_all (λ q. is_full b q S hx) regions no_region (λ k lk.

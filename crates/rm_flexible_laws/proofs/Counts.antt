@@ -8,10 +8,10 @@ use Rattle.std.proofs.lemmas.List.Sums.{sum_by-cons, length-filter}
 use Rattle.rm_sets.specs.Sets.{has, IsIn, IsSet, with_one, without}
 use Rattle.rm_sets.proofs.Sets.{IsSet-filter, IsSet-tail, IsSet-first, IsIn-here, IsIn-later, IsIn-cases, same_tests, same_within}
 use Rattle.rm_sets.proofs.Members.{IsIn-filter, IsIn-from_filter, within-filter}
-use Rattle.rm_sets.proofs.Sizes.{length_within}
 use Rattle.rm_valuation_laws.proofs.Counts.{one, count-cons, count_or, count_none, count_same, count-with_one, count-without, picked}
 use Rattle.rm_market.specs.Flexible.{Seat, Region}
-use Rattle.rm_flexible_laws.specs.Region.{no_seat, IsRegion, count_at, count_in, is_of}
+use Rattle.rm_flexible_laws.specs.Region.{no_seat, IsRegion}
+use Rattle.rm_flexible_laws.proofs.ByCounts.{count_at, count_in, is_of}
 use Rattle.rm_flexible_laws.proofs.Tests.{at_any}
 
 -- ---- one contract more or less
@@ -21,11 +21,6 @@ passing-with_one p S x out = length-filter p (with_one S x) ∙ (count-with_one 
 
 pub passing-without : (p : ℕ → Bool) (S : List ℕ) (x : ℕ) → IsSet S → IsIn x S → length (filter p (without S x)) + one (p x) ≡ length (filter p S)
 passing-without p S x s i = ap (λ n. n + one (p x)) (length-filter p (without S x)) ∙ (count-without p S x s i ∙ sym (length-filter p S))
-
-pub passing_within : (p : ℕ → Bool) (S T : List ℕ) → IsSet S → IsSet T → ((x : ℕ) → IsIn x S → p x ≡ true → IsIn x T) → length (filter p S) ≤ length (filter p T)
-passing_within p S T s t f =
-    length_within (filter p S) (filter p T) (IsSet-filter p S s) (IsSet-filter p T t)
-    (λ x i. let both = IsIn-from_filter p S x i in IsIn-filter p T x (f x both.0 both.1) both.1)
 
 pub passing_positive : (p : ℕ → Bool) (S : List ℕ) (x : ℕ) → IsIn x S → p x ≡ true → 0 < length (filter p S)
 passing_positive p S x i h = at (filter p S) refl (IsIn-filter p S x i h)

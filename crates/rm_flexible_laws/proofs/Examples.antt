@@ -3,10 +3,11 @@ use Rattle.std.proofs.Common.{◌≡◌, ◌≢◌, ◌⊎◌, ℕ, zero, suc, �
 use Rattle.std.specs.Prelude.{sum_by}
 use Rattle.std.proofs.lemmas.List.Elements.{All-cons, All-nil}
 use Rattle.rm_market.specs.Board.{Board, contract_count, hospital_of, node_at}
-use Rattle.rm_market.specs.Flexible.{Region}
+use Rattle.std.specs.List.{list_any}
+use Rattle.rm_market.specs.Flexible.{Region, is_seat_of}
 use Rattle.rm_market.proofs.Small.{targets, targets_region}
 use Rattle.rm_valuation_laws.specs.Changes.{in_node}
-use Rattle.rm_flexible_laws.specs.Region.{region_at, IsRegion, IsRegions, IsPlace, is_of}
+use Rattle.rm_flexible_laws.specs.Region.{region_at, IsRegion, IsRegions, IsPlace}
 use Rattle.rm_flexible_laws.specs.Compiled.{IsSeatNode, IsCapNode, IsCompiled}
 
 abbrev board : Board
@@ -67,7 +68,7 @@ second_node = record {
 
 cap_node : IsCapNode board targets_region (node_at board 2)
 cap_node = record {
-  contracts = six (λ x. in_node board (node_at board 2) x ≡ is_of (hospital_of board) targets_region x) refl refl refl refl refl refl;
+  contracts = six (λ x. in_node board (node_at board 2) x ≡ list_any (is_seat_of board x) targets_region.seats) refl refl refl refl refl refl;
   steps = refl;
 }
 

@@ -9,7 +9,8 @@ use Rattle.rm_sets.proofs.Sets.{not_both, same_within, IsSet-filter, same_tests}
 use Rattle.rm_sets.proofs.Members.{IsIn-filter, IsIn-from_filter, within-filter}
 use Rattle.rm_sets.proofs.Sizes.{length_within}
 use Rattle.rm_market.specs.Flexible.{Region}
-use Rattle.rm_flexible_laws.specs.Region.{no_seat, seat_at, IsRegion, count_at, count_in, is_of}
+use Rattle.rm_flexible_laws.specs.Region.{no_seat, seat_at, IsRegion}
+use Rattle.rm_flexible_laws.proofs.ByCounts.{count_at, count_in, is_of}
 use Rattle.rm_flexible_laws.proofs.Tests.{any_at, at_any, sums_le}
 use Rattle.rm_flexible_laws.proofs.Counts.{rank, count-filter, length_first, count_in-sum, filter_all}
 

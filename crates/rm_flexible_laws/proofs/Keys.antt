@@ -2,7 +2,7 @@
 use Rattle.std.proofs.Common.{◌≡◌, ℕ, suc, ◌+◌, ◌-◌, ◌*◌, ◌<◌, ◌≤◌, cond, sym, ap, ◌∙◌, ⊎_elim, arith}
 use Rattle.std.proofs.Math.Nat.{mul-le-mul_right, suc-mul}
 use Rattle.std.proofs.lemmas.Bool.{le-leb, lt-leb, cases_lt}
-use Rattle.rm_flexible_laws.specs.Region.{turn_number}
+use Rattle.rm_flexible_laws.proofs.ByCounts.{turn_number}
 
 -- up to the target
 pub turn_low : (m j t k : ℕ) → k ≤ t → turn_number m j t k ≡ 0

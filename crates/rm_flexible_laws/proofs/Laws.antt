@@ -13,7 +13,8 @@ use Rattle.rm_valuation_laws.proofs.Counts.{count_or, count_none}
 use Rattle.rm_market.specs.Board.{Board, hospital_of}
 use Rattle.rm_market.specs.Best.{IsChoice}
 use Rattle.rm_market.specs.Flexible.{Region, flexible}
-use Rattle.rm_flexible_laws.specs.Region.{no_seat, seat_at, no_region, region_at, IsRegions, IsPlace, count_at, count_in, is_of, IsFull, IsPicked}
+use Rattle.rm_flexible_laws.specs.Region.{no_seat, seat_at, no_region, region_at, IsRegions, IsPlace}
+use Rattle.rm_flexible_laws.proofs.ByCounts.{count_at, count_in, is_of, IsFull, IsPickedBy}
 use Rattle.rm_flexible_laws.proofs.Keys.{turn_rises}
 use Rattle.rm_flexible_laws.proofs.Tests.{any_at, at_any, some_more, some_less}
 use Rattle.rm_flexible_laws.proofs.Counts.{count_in-sum, passing_more, filter_all}
@@ -44,7 +45,7 @@ module _ (n : ℕ) (f : ℕ → ℕ) (regions : List Region) (ok : IsRegions n f
       (λ i j x lt lj hi hj. let e = one_region n f regions ok x i j (omega arith) lj hi hj in absurd (omega arith))
       ∙ ap (λ g. sum_by g regions) (fun_ext (λ r. sym (length-filter (is_of f r) S)))))
 
-  module _ (X Y S T : List ℕ) (sX : IsSet X) (sY : IsSetBelow n Y) (w : IsWithin X Y) (pS : IsPicked f regions X S) (pT : IsPicked f regions Y T) where
+  module _ (X Y S T : List ℕ) (sX : IsSet X) (sY : IsSetBelow n Y) (w : IsWithin X Y) (pS : IsPickedBy f regions X S) (pT : IsPickedBy f regions Y T) where
     -- where T has fewer at a seat, the region is full
     fewer_full : (i j : ℕ) → i < length regions → j < length (region_at regions i).seats → count_at f (seat_at (region_at regions i) j) T < count_at f (seat_at (region_at regions i) j) S →
         IsFull f (region_at regions i) T j

@@ -1,3 +1,4 @@
+pub mod ByCounts
 pub mod Keys
 pub mod Tests
 pub mod Counts

@@ -12,7 +12,8 @@ use Rattle.rm_sets.proofs.Members.{IsIn-filter, IsIn-from_filter, within-filter,
 use Rattle.rm_sets.proofs.Sizes.{length-with_one}
 use Rattle.rm_valuation_laws.proofs.Counts.{one}
 use Rattle.rm_market.specs.Flexible.{Seat, Region}
-use Rattle.rm_flexible_laws.specs.Region.{no_seat, seat_at, IsRegion, count_at, is_of, turn_of}
+use Rattle.rm_flexible_laws.specs.Region.{no_seat, seat_at, IsRegion}
+use Rattle.rm_flexible_laws.proofs.ByCounts.{count_at, is_of, turn_of}
 use Rattle.rm_flexible_laws.proofs.Keys.{turn_low, turn_high, turn_grows, turns_apart, turn_positive, past_from_turn, past, rows}
 use Rattle.rm_flexible_laws.proofs.Tests.{IsFirst, find_first, find_none}
 use Rattle.rm_flexible_laws.proofs.Counts.{passing-with_one}

@@ -7,11 +7,12 @@ use Rattle.rm_sets.proofs.Sets.{not_both, same_within, IsSet-filter, IsSet-union
 use Rattle.rm_sets.proofs.Members.{IsIn-filter, IsIn-from_filter, within-filter, IsIn-union_left, IsIn-union_right, IsIn-union_cases, not_in_nil, not_in_from}
 use Rattle.rm_market.specs.Board.{Board, hospital_of}
 use Rattle.rm_market.specs.Flexible.{Seat, Region, kept, flexible, in_region}
-use Rattle.rm_flexible_laws.specs.Region.{no_seat, seat_at, no_region, region_at, IsRegion, IsRegions, IsPlace, count_at, is_of, turn_of, IsPassed, IsPicked}
+use Rattle.rm_flexible_laws.specs.Region.{no_seat, seat_at, no_region, region_at, IsRegion, IsRegions, IsPlace}
+use Rattle.rm_flexible_laws.proofs.ByCounts.{count_at, is_of, turn_of, IsPassed, IsPickedBy}
 use Rattle.rm_flexible_laws.proofs.Keys.{turn_bound}
 use Rattle.rm_flexible_laws.proofs.Tests.{any_at, at_any}
 use Rattle.rm_flexible_laws.proofs.Counts.{filter_all}
-use Rattle.rm_flexible_laws.proofs.First.{firsts}
+use Rattle.rm_flexible_laws.proofs.First.{seats_one, firsts}
 use Rattle.rm_flexible_laws.proofs.Loop.{after, IsAfter, NoSeat, Done, Later, at_start, rounds}
 
 -- ---- the greatest capacity
@@ -138,7 +139,7 @@ module _ (n : ℕ) (f : ℕ → ℕ) (regions : List Region) (ok : IsRegions n f
 
   -- what all regions pick, from what each picks
   pub picked_from_parts : (X S : List ℕ) → IsSet S → IsWithin S X →
-      ((i : ℕ) → i < length regions → IsKept f (region_at regions i) (filter (is_of f (region_at regions i)) X) (filter (is_of f (region_at regions i)) S)) → IsPicked f regions X S
+      ((i : ℕ) → i < length regions → IsKept f (region_at regions i) (filter (is_of f (region_at regions i)) X) (filter (is_of f (region_at regions i)) S)) → IsPickedBy f regions X S
   picked_from_parts X S s w each = record {
     set = s;
     within = w;
@@ -228,7 +229,7 @@ module _ (b : Board) (regions : List Region) (n : ℕ) (ok : IsRegions n (hospit
       subst (λ l. IsIn x (kept b (region_at regions l) (in_region b (region_at regions l) X))) same t.2)
       (λ x h. IsIn-filter (is_of f r) (flexible b regions X) x (in_flexible x i lt h) (IsIn-from_filter (is_of f r) X x (k.within x h)).1)
 
-  pub flexible_picked : IsPicked (hospital_of b) regions X (flexible b regions X)
+  pub flexible_picked : IsPickedBy (hospital_of b) regions X (flexible b regions X)
   flexible_picked =
       let f = hospital_of b in
       picked_from_parts n f regions ok X (flexible b regions X) flexible_set
@@ -236,7 +237,7 @@ module _ (b : Board) (regions : List Region) (n : ℕ) (ok : IsRegions n (hospit
       (λ i lt. subst (IsKept f (region_at regions i) (filter (is_of f (region_at regions i)) X)) (sym (flexible_part i lt)) (part_kept i lt))
 
   -- the pick of one region among all, of contracts of that region
-  pub kept_picked : (i : ℕ) → i < length regions → ((x : ℕ) → IsIn x X → is_of (hospital_of b) (region_at regions i) x ≡ true) → IsPicked (hospital_of b) regions X (kept b (region_at regions i) X)
+  pub kept_picked : (i : ℕ) → i < length regions → ((x : ℕ) → IsIn x X → is_of (hospital_of b) (region_at regions i) x ≡ true) → IsPickedBy (hospital_of b) regions X (kept b (region_at regions i) X)
   kept_picked i lt inside =
       let f = hospital_of b in
       let r = region_at regions i in
@@ -267,3 +268,11 @@ module _ (b : Board) (regions : List Region) (n : ℕ) (ok : IsRegions n (hospit
         seats = λ j lt. omega arith;
         passed = λ x j ix. absurd (not_in_nil x ix);
       }
+
+-- a hospital has one seat
+pub one_place : (n : ℕ) (f : ℕ → ℕ) (regions : List Region) → IsRegions n f regions → (h i j k l : ℕ) → IsPlace regions h i j → IsPlace regions h k l → (i ≡ k) × (j ≡ l)
+one_place n f regions ok h i j k l p q =
+    let same = ok.one h i j k l p q in
+    let lj = subst (λ z. l < length (region_at regions z).seats) (sym same) q.seat in
+    let e : (seat_at (region_at regions i) l).hospital ≡ h = subst (λ z. (seat_at (region_at regions z) l).hospital ≡ h) (sym same) q.hospital in
+    (same, seats_one (region_at regions i) (region_ok n f regions ok i p.region) j l p.seat lj (p.hospital ∙ sym e))

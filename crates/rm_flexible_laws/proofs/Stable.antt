@@ -5,19 +5,20 @@ use Rattle.std.proofs.lemmas.Bool.{cases_Bool, and_parts, or_cases, or_left, or_
 use Rattle.rm_sets.specs.Sets.{has, IsSetBelow, with_one}
 use Rattle.rm_sets.proofs.Sets.{not_both, IsIn-with_one_cases, below-all_below}
 use Rattle.rm_sets.proofs.Members.{IsSetBelow-with_one, IsIn-with_one_new, IsIn-with_one_old, IsIn-all_below, within_refl}
-use Rattle.rm_sets.proofs.Search.{from_list_all, into_list_all}
 use Rattle.rm_market.specs.Board.{Board, IsBoard, contract_count, contracts, hospital_of, is_feasible}
 use Rattle.rm_market.specs.Best.{IsBest, values_of}
 use Rattle.rm_market.specs.Stable.{Wishes, IsPlacement, IsStable, wants, owner, prefers, at}
 use Rattle.rm_market.specs.Tree.{below}
 use Rattle.rm_market.specs.Flexible.{Region, has_count_form, is_passed_over}
 use Rattle.rm_market.specs.Market.{Market, IsMarket, IsStableIn, wishes_of}
-use Rattle.rm_flexible_laws.specs.Region.{region_at, IsRegions, IsPlace, IsPassed}
+use Rattle.rm_flexible_laws.specs.Region.{region_at, IsRegions, IsPlace}
+use Rattle.rm_flexible_laws.proofs.ByCounts.{IsPassed}
 use Rattle.rm_flexible_laws.specs.Compiled.{IsCompiled}
 use Rattle.rm_flexible_laws.proofs.Compiled.{caps_of_feasible}
 use Rattle.rm_flexible_laws.proofs.Best.{picked_best}
-use Rattle.rm_flexible_laws.proofs.Converse.{one_place, best_picked}
-use Rattle.rm_flexible_laws.proofs.CountForm.{passed_says, passed_from}
+use Rattle.rm_flexible_laws.proofs.Pick.{one_place}
+use Rattle.rm_flexible_laws.proofs.Converse.{best_picked}
+use Rattle.rm_flexible_laws.proofs.CountForm.{all_members, members_all, passed_says, passed_from}
 
 module _ (doctors : ℕ) (b : Board) (regions : List Region) (board : IsBoard doctors b) (ok : IsRegions (contract_count b) (hospital_of b) regions) (made : IsCompiled b regions) where
   module _ (S : List ℕ) (s : IsSetBelow (contract_count b) S) (h : is_feasible b S ≡ true) where
@@ -39,7 +40,7 @@ module _ (doctors : ℕ) (b : Board) (regions : List Region) (board : IsBoard do
       passed = λ y i j iy out p. ⊎_elim
           (λ old. absurd (not_both (has y S) old out))
           (λ same. subst (λ z. IsPassed (hospital_of b) (region_at regions i) S j z) (sym same)
-          (passed_says b regions doctors (one_place doctors b regions board ok made) S x i j (subst (λ z. IsPlace regions (hospital_of b z) i j) same p) passed))
+          (passed_says b regions (one_place (contract_count b) (hospital_of b) regions ok) S x i j (subst (λ z. IsPlace regions (hospital_of b z) i j) same p) passed))
           (IsIn-with_one_cases y S x iy);
     })
 
@@ -47,13 +48,13 @@ module _ (doctors : ℕ) (b : Board) (regions : List Region) (board : IsBoard do
     refused_passed x lx out best =
         let p = ok.all x lx in
         let pick = best_picked doctors b regions board ok made (with_one S x) S (IsSetBelow-with_one (contract_count b) S x s lx) best in
-        passed_from b regions doctors (one_place doctors b regions board ok made) S x p.0 p.1 p.2 (pick.passed x p.0 p.1 (IsIn-with_one_new S x) out p.2)
+        passed_from b regions (one_place (contract_count b) (hospital_of b) regions ok) S x p.0 p.1 p.2 (pick.passed x p.0 p.1 (IsIn-with_one_new S x) out p.2)
 
   pub count_form_from_stable : (w : Wishes) (S : List ℕ) → length w.owners ≡ contract_count b → is_feasible b S ≡ true → IsStable (IsBest (values_of b)) w S → has_count_form b regions w S ≡ true
   unfolding has_count_form
   count_form_from_stable w S long h stable =
       let s = subst (λ n. IsSetBelow n S) long stable.placement.set in
-      into_list_all (λ x. not (wants w S x) || is_passed_over b regions S x) (below (contract_count b)) (λ x ix.
+      members_all (λ x. not (wants w S x) || is_passed_over b regions S x) (below (contract_count b)) (λ x ix.
       let lx = (below-all_below (contract_count b) (λ k. true) x ix).0 in
       ⊎_elim
       (λ yes.
@@ -71,7 +72,7 @@ module _ (doctors : ℕ) (b : Board) (regions : List Region) (board : IsBoard do
         kept = own_best S s h;
         unblocked = λ x lx wanted.
             let ln = subst (λ n. x < n) long lx in
-            let t = from_list_all (λ y. not (wants w S y) || is_passed_over b regions S y) (below (contract_count b)) form x (IsIn-all_below (contract_count b) (λ k. true) x ln refl) in
+            let t = all_members (λ y. not (wants w S y) || is_passed_over b regions S y) (below (contract_count b)) form x (IsIn-all_below (contract_count b) (λ k. true) x ln refl) in
             passed_refused S s h x ln (⊎_elim
             (λ off. absurd (not_both (not (wants w S x)) off (not_from_true (wants w S x) wanted)))
             (λ g. g)

@@ -1,9 +1,10 @@
 -- The board of regions: a node for each hospital, with the worths of its seats, and nodes for the regions' caps.
 use Rattle.std.specs.Prelude.{◌≡◌, ◌⊎◌, ℕ, ◌+◌, ◌<◌, ◌==◌, List, length, replicate, sum_by, pos}
 use Rattle.rm_market.specs.Board.{Board, Node, contract_count, hospital_of, node_at}
-use Rattle.rm_market.specs.Flexible.{Region, seat_steps}
+use Rattle.std.specs.List.{list_any}
+use Rattle.rm_market.specs.Flexible.{Region, is_seat_of, seat_steps}
 use Rattle.rm_valuation_laws.specs.Changes.{in_node}
-use Rattle.rm_flexible_laws.specs.Region.{seat_at, region_at, IsPlace, is_of}
+use Rattle.rm_flexible_laws.specs.Region.{seat_at, region_at, IsPlace}
 
 -- n is the node of the region's seat j
 pub record IsSeatNode (b : Board) (r : Region) (j : ℕ) (n : Node) : Type 0 where
@@ -12,7 +13,7 @@ pub record IsSeatNode (b : Board) (r : Region) (j : ℕ) (n : Node) : Type 0 whe
 
 -- n is the node of the region: as many steps of 0 as its cap
 pub record IsCapNode (b : Board) (r : Region) (n : Node) : Type 0 where
-  pub contracts : (x : ℕ) → x < contract_count b → in_node b n x ≡ is_of (hospital_of b) r x
+  pub contracts : (x : ℕ) → x < contract_count b → in_node b n x ≡ list_any (is_seat_of b x) r.seats
   pub steps : n.steps ≡ replicate r.cap (pos 0)
 
 -- node h is that of hospital h, and each other node is one of a region; a region without a node has a cap that bounds nothing

@@ -1,31 +1,39 @@
 -- What is proved of regions, of their pick and of their board.
-use Rattle.std.specs.Prelude.{◌≡◌, ◌↔◌, ℕ, ◌+◌, ◌<◌, List, length, All, IsTrue}
-use Rattle.rm_sets.specs.Sets.{IsSet, IsSetBelow}
+use Rattle.std.specs.Prelude.{◌≡◌, ◌↔◌, ℕ, ◌+◌, ◌<◌, ◌≤◌, List, length, All, IsTrue}
+use Rattle.rm_sets.specs.Sets.{IsIn, IsSet, IsSetBelow, IsWithin}
 use Rattle.rm_market.specs.Board.{Board, IsBoard, IsFalling, contract_count, hospital_of, is_feasible}
 use Rattle.rm_market.specs.Best.{IsBest, IsChoice, values_of}
 use Rattle.rm_market.specs.Stable.{Wishes, IsPlacement, IsStable, IsOptimal, IsOnlyOptimal, Takes}
 use Rattle.rm_market.specs.Market.{Market, IsMarket, IsStableIn, wishes_of}
-use Rattle.rm_market.specs.Flexible.{Region, Seat, kept, in_region, flexible, seat_steps, has_count_form}
+use Rattle.rm_market.specs.Flexible.{Region, Seat, kept, in_region, flexible, region_count, held_at, is_passed_over, seat_steps, has_count_form}
 use Rattle.rm_market.specs.Machine.{IsClosed}
 use Rattle.rm_market.specs.Laws.{AreWishes, after}
 use Rattle.rm_matching_laws.specs.Results.{RunsClose}
 use Rattle.rm_market_laws.specs.Results.{RunsWellIn, HasPlacement}
-use Rattle.rm_flexible_laws.specs.Region.{region_at, IsRegion, IsRegions, IsPlace, IsPicked}
+use Rattle.rm_flexible_laws.specs.Region.{seat_at, region_at, IsRegion, IsRegions, IsPlace}
 use Rattle.rm_flexible_laws.specs.Compiled.{IsCompiled}
 
--- what one region keeps of its contracts, told by counts
+-- S is what the regions keep of X, told as in the count form: it is within the caps and capacities, and each other contract of X is passed over
+pub record IsPicked (b : Board) (regions : List Region) (X S : List ℕ) : Type 0 where
+  pub set : IsSet S
+  pub within : IsWithin S X
+  pub in_caps : (i : ℕ) → i < length regions → region_count b (region_at regions i) S ≤ (region_at regions i).cap
+  pub in_capacities : (i j : ℕ) → i < length regions → j < length (region_at regions i).seats → held_at b S (seat_at (region_at regions i) j) ≤ (seat_at (region_at regions i) j).capacity
+  pub passed : (x : ℕ) → IsIn x X → ¬ IsIn x S → IsTrue (is_passed_over b regions S x)
+
+-- what one region keeps of its contracts
 abbrev pub KeptIsPicked : Board → List Region → Type 0
 KeptIsPicked b regions =
-    (i : ℕ) (X : List ℕ) → i < length regions → IsSet X → IsPicked (hospital_of b) regions (in_region b (region_at regions i) X) (kept b (region_at regions i) (in_region b (region_at regions i) X))
+    (i : ℕ) (X : List ℕ) → i < length regions → IsSetBelow (contract_count b) X → IsPicked b regions (in_region b (region_at regions i) X) (kept b (region_at regions i) (in_region b (region_at regions i) X))
 
 -- and what all regions keep
 abbrev pub FlexibleIsPicked : Board → List Region → Type 0
-FlexibleIsPicked b regions = (X : List ℕ) → IsSet X → IsPicked (hospital_of b) regions X (flexible b regions X)
+FlexibleIsPicked b regions = (X : List ℕ) → IsSetBelow (contract_count b) X → IsPicked b regions X (flexible b regions X)
 
--- these counts leave one set
+-- no other set is so
 abbrev pub PickedIsOne : Board → List Region → Type 0
 PickedIsOne b regions =
-    (X S T : List ℕ) → IsSetBelow (contract_count b) X → IsPicked (hospital_of b) regions X S → IsPicked (hospital_of b) regions X T → S ≡ T
+    (X S T : List ℕ) → IsSetBelow (contract_count b) X → IsPicked b regions X S → IsPicked b regions X T → S ≡ T
 
 -- on the board of the regions, what one region keeps of its contracts is their best subset
 abbrev pub KeptIsBest : Board → List Region → Type 0
@@ -38,7 +46,7 @@ FlexibleIsBest b regions = (X : List ℕ) → IsSetBelow (contract_count b) X �
 
 -- the best subset is what the counts say
 abbrev pub BestIsPicked : Board → List Region → Type 0
-BestIsPicked b regions = (X S : List ℕ) → IsSetBelow (contract_count b) X → IsBest (values_of b) X S ↔ IsPicked (hospital_of b) regions X S
+BestIsPicked b regions = (X S : List ℕ) → IsSetBelow (contract_count b) X → IsBest (values_of b) X S ↔ IsPicked b regions X S
 
 -- a feasible placement is stable exactly where it has the count form
 abbrev pub StableIsCountForm : Board → List Region → Type 0

@@ -17,7 +17,7 @@ ChoosesBest m chosen = (X : List ℕ) → IsSetBelow (contract_count m.board) X 
 abbrev pub HasPlacement : Market → (List ℕ → List ℕ) → Type 0
 HasPlacement m chosen = (ds : List ℕ) × IsClosed chosen (wishes_of m) (after chosen (wishes_of m) ds) × IsPlacementOf m (after chosen (wishes_of m) ds).held
 
--- of every run with the best subsets, in every order: what is held is the best subset of all that was offered; what was offered and
+-- deferred acceptance with the best subsets, of every run, in every order: what is held is the best subset of all that was offered; what was offered and
 -- isn't held stands in no stable set; and where it is closed, what is held is the placement
 pub record RunsWellIn (m : Market) (chosen : List ℕ → List ℕ) : Type 0 where
   pub held : (ds : List ℕ) → Best m (offered_so_far (wishes_of m) (after chosen (wishes_of m) ds)) (after chosen (wishes_of m) ds).held
@@ -25,11 +25,11 @@ pub record RunsWellIn (m : Market) (chosen : List ℕ → List ℕ) : Type 0 whe
       → IsStableIn m T → ¬ IsIn x T
   pub closed : (ds : List ℕ) → IsClosed chosen (wishes_of m) (after chosen (wishes_of m) ds) → IsPlacementOf m (after chosen (wishes_of m) ds).held
 
--- all stable sets place the same doctors
+-- rural hospitals, for doctors: all stable sets place the same ones
 abbrev pub PlacesSameIn : Market → Type 0
 PlacesSameIn m = (S T : List ℕ) (d : ℕ) → IsStableIn m S → IsStableIn m T → is_some (at (wishes_of m) d S) ≡ is_some (at (wishes_of m) d T)
 
--- by no other list of hospitals does a doctor get a contract that he prefers, and with it there is a placement too
+-- truthfulness: by no other list of hospitals does a doctor get a contract that he prefers, and with it there is a placement too
 pub record IsTruthfulIn (m : Market) : Type 0 where
   pub exists : (d : ℕ) (list : List ℕ) → IsList m.board list → (T : List ℕ) × IsPlacementOf (replaced m d list) T
   pub no_gain : (d : ℕ) (list S T : List ℕ) → d < length m.lists → IsList m.board list → IsPlacementOf m S → IsPlacementOf (replaced m d list) T

@@ -193,18 +193,3 @@ module _ (C : List ℕ → List ℕ) (D : Wishes) (m : AreLawful C D) where
       (λ in_T. absurd (not_both (has x (run C D (start D) ds).held) (subst (IsIn x) (sym r.held) (r.progress.safe T (IsFirm-from_stable C D m T stable) x in_T i)) out))
       (λ h. h)
       (cases_has x T)
-
-  -- what holds of nothing, and of a set with the next contract where it holds of the set, holds of what each run offered
-  pub offered_keeps : (Q : List ℕ → Type 0) → Q [] → ((A : List ℕ) (x : ℕ) → IsProgress C D A → IsNext C D A x → Q A → Q (with_one A x)) → (ds : List ℕ) → Q (offered_so_far D (run C D (start D) ds))
-  offered_keeps Q none more ds = each ds (start D) IsReached-start (subst Q (sym offered-start) none)
-    where
-      turn : (s : State) (d : ℕ) → IsReached C D s → Q (offered_so_far D s) → Q (offered_so_far D (after_turn C D s d))
-      turn s d r q =
-          ⊎_elim
-          (λ h. subst Q (sym (offered-step s (after_turn C D s d) h.0 h.1)) (more (offered_so_far D s) h.0 r.progress (IsNext-step s (after_turn C D s d) h.0 r h.1) q))
-          (λ h. subst (λ t. Q (offered_so_far D t)) (sym h.0) q)
-          (cases_turn s d r.long)
-
-      each : (ds : List ℕ) (s : State) → IsReached C D s → Q (offered_so_far D s) → Q (offered_so_far D (run C D s ds))
-      each [] s r q = q
-      each (d ∷ ds) s r q = each ds (after_turn C D s d) (IsReached-turn s d r) (turn s d r q)

@@ -10,7 +10,7 @@ use Rattle.rm_market.specs.Board.{Board, is_feasible, node_at, no_node}
 use Rattle.rm_valuation_laws.specs.Scores.{place}
 use Rattle.rm_valuation_laws.specs.Changes.{in_node, on, last_step, swap_loss, test_at, loss_upto, IsCheaper, less, tied, IsCheapest, IsJustAbove}
 use Rattle.rm_valuation_laws.specs.Offers.{IsInside, AtOneStep}
-use Rattle.rm_valuation_laws.proofs.Sums.{sum_upto_same, sum_upto_zero, sum_upto_add, sum_upto_one, sum_by_place, on_or}
+use Rattle.rm_valuation_laws.proofs.Sums.{sum_upto_same, sum_upto_add, sum_upto_one, sum_by_place, on_or}
 use Rattle.rm_valuation_laws.proofs.Score.{better_from_higher, higher_from_better, infeasible_not_better}
 use Rattle.rm_valuation_laws.proofs.Leads.{place_same}
 use Rattle.rm_valuation_laws.proofs.Change.{swap_feasible, swap_infeasible}
@@ -63,18 +63,6 @@ loss_of_swap b under H d x z same =
     sum_by_place (λ n. on (in_node b n z && not (in_node b n x)) (last_step b H n)) no_node b.nodes
     ∙ sum_upto_same (length b.nodes) (λ k. on (test_at b k z && not (test_at b k x)) (last_step b H (node_at b k))) (λ k. on (test_at b k z && under k d) (last_step b H (node_at b k)))
     (λ k lt. on_same (test_at b k z) (not (test_at b k x)) (under k d) (last_step b H (node_at b k)) (λ t. same k lt t))
-
--- a swap within the offer's leaf loses nothing
-pub loss_in_leaf : (b : Board) (H : List ℕ) (x z : ℕ) → ((k : ℕ) → k < length b.nodes → test_at b k z ≡ true → test_at b k x ≡ true) → swap_loss b H x z ≡ pos 0
-loss_in_leaf b H x z same =
-    sum_by_place (λ n. on (in_node b n z && not (in_node b n x)) (last_step b H n)) no_node b.nodes
-    ∙ (sum_upto_same (length b.nodes) (λ k. on (test_at b k z && not (test_at b k x)) (last_step b H (node_at b k))) (λ k. pos 0)
-    (λ k lt. none (test_at b k z) (test_at b k x) (last_step b H (node_at b k)) (same k lt))
-    ∙ sum_upto_zero (length b.nodes))
-  where
-    none : (p q : Bool) (s : ℤ) → (p ≡ true → q ≡ true) → on (p && not q) s ≡ pos 0
-    none true q s f = ap (λ c. on (true && not c) s) (f refl)
-    none false q s f = refl
 
 -- ---- the cheapest
 
