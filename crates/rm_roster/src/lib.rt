@@ -44,7 +44,7 @@ impl Model for Roster {
     ghost invariant = { λ r. IsRoster (joined r.hospitals r.doctors r.ranks) };
 }
 
-// What holds of the roster of tables that no check refuses.
+/// The law that the roster of tables which no check refuses is as `IsRoster` says. It does nothing.
 pub fn accepted_tables()
     ensures { (hospitals doctors ranks : List Row) → first_of (roster_checks hospitals doctors ranks) ≡ None → IsRoster (roster_of hospitals doctors ranks) }
 {}
