@@ -8,4 +8,6 @@ mod HospitalRows
 mod ItemCells
 mod NumberLemmas
 mod NumberedTexts
+pub mod OnLiterals
 mod RankRows
+mod Small

@@ -104,6 +104,7 @@ impl Doctors {
     fn read_rows(alloc: Global, table: &Table, hospitals: &Names) -> Result<Doctors, RosterFault>
         ensures { Reads (first_of (checks_of (doctor_checks_after hospitals.now) (data_rows table.now))) (doctors_of hospitals.now (data_rows table.now)) result }
     {
+        // One list more than the most doctors, so that the row past the limit has its place too.
         let count = table
             .rows()
             .saturating_sub(1)

@@ -1,9 +1,10 @@
 //! The roster: what the files of hospitals, doctors and rank lists say.
 #![tactic(auto)]
 
-ghost use Rattle.std.specs.Prelude.{◌≡◌, ◌<◌, get_or, length};
+ghost use Rattle.std.specs.Prelude.{◌≡◌, ◌<◌, List, None, get_or, length};
 ghost use Rattle.rm_base.specs.Checks.{first_of};
 ghost use Rattle.rm_base.specs.Reading.{Reads};
+ghost use Rattle.rm_table.specs.Rows.{Row};
 ghost use Rattle.rm_roster.specs.Roster.{IsRoster, roster_checks, roster_of};
 
 mod cells;
@@ -43,6 +44,11 @@ impl Model for Roster {
     ghost invariant = { λ r. IsRoster (joined r.hospitals r.doctors r.ranks) };
 }
 
+/// The law that the roster of tables which no check refuses is as `IsRoster` says. It does nothing.
+pub fn accepted_tables()
+    ensures { (hospitals doctors ranks : List Row) → first_of (roster_checks hospitals doctors ranks) ≡ None → IsRoster (roster_of hospitals doctors ranks) }
+{}
+
 impl Roster {
     /// The roster that three tables tell, or their first refusal: the tables in this order, in each the header and then its
     /// rows, and in a row its fields.
@@ -64,7 +70,7 @@ impl Roster {
         })
     }
 
-    /// The names of the hospitals.
+    /// The names of the hospitals. Here and at the other names and lists `roster` says what holds of every roster.
     pub fn hospitals(&self) -> &Names
         ensures hospitals { result.now ≡ self.entry.now.hospitals }
         ensures roster { IsRoster self.entry.now }
@@ -128,3 +134,6 @@ impl Roster {
         &self.ranks
     }
 }
+
+#[cfg(test)]
+mod tests;
