@@ -175,3 +175,7 @@ module _ (ranks : List (List ℕ)) (h : ℕ) (doctors hospitals starts : List �
         as_many = omega (arith, done.as_many);
         start = λ k lt. done.start k (omega arith);
       }
+
+pub rank-fits : (ranks : List (List ℕ)) (h : ℕ) → h < length ranks → length (pairs_of ranks) < 4_000_000_000 → length (get_or ranks h []) < 4_000_000_000
+rank-fits ranks h lt few =
+    omega (arith, pairs-front ranks (h + 1), ap length (pairs-more ranks h lt), length-append (pairs_of (take h ranks)) (own h (get_or ranks h [])), length-own h (get_or ranks h []))

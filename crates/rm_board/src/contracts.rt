@@ -1,6 +1,6 @@
 // The numbering of contracts.
 
-ghost use Rattle.std.specs.Prelude.{◌≡◌, ◌<◌, ℕ, List, length, map, slice_index_or, IfOk, IfSome};
+ghost use Rattle.std.specs.Prelude.{◌≡◌, ◌<◌, [], length, get_or, IfOk, IfSome};
 ghost use Rattle.std.specs.List.{sum_by};
 ghost use Rattle.rm_market.specs.Board.{pairs_of, number_of, hospital_of_number};
 ghost use Rattle.rm_board.specs.Numbers.{doctor_of_number, owners_of_ranks};
@@ -84,6 +84,23 @@ impl Contracts {
         ensures { result.now ≡ owners_of_ranks self.now }
     {
         &self.doctors
+    }
+
+    /// The number of hospitals.
+    pub fn hospitals(&self) -> u32
+        ensures { result ≡ length self.now }
+    {
+        self.ranks.len()
+    }
+
+    /// The rank list of hospital h.
+    pub fn rank(&self, h: u32) -> &[u32]
+        requires { h < length self.now }
+        ensures list { result.now ≡ get_or self.now h [] }
+        ensures few { length result.now < 4_000_000_000 }
+    {
+        let _ = &self.doctors;
+        self.ranks.list(h)
     }
 
     /// The contract of doctor d and hospital h; None exactly where h doesn't rank d.

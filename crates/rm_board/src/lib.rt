@@ -1,8 +1,48 @@
 //! The board of a market: its contracts, tie order, nodes and steps.
 #![tactic(auto)]
 
+ghost use Rattle.std.specs.Prelude.{◌≡◌, ◌≤◌, length, IfOk};
+ghost use Rattle.std.specs.List.{sum_by};
+
 mod contracts;
+mod orders;
 mod wishes;
 
 pub use contracts::{Contracts, NoMemory};
 pub use wishes::listed;
+
+#[cfg(test)]
+mod tests {
+    use super::*;
+    use rm_ranks::{Lists, ListsBuilder};
+    use std::alloc::{AllocError, Global};
+    use std::test::Fail;
+
+    // The rank lists of one hospital, which ranks the second doctor above the first.
+    fn one_rank(alloc: Global) -> Result<Lists, NoMemory>
+        ensures few { IfOk result (λ ranks. sum_by length ranks ≤ 10) }
+        ensures one { IfOk result (λ ranks. length ranks ≡ 1) }
+    {
+        let mut builder = ListsBuilder::new(alloc, 1, 2, 10)?;
+        let Ok(()) = builder.row(0, 1) else {
+            return Err(AllocError);
+        };
+        let Ok(()) = builder.push(1) else {
+            return Err(AllocError);
+        };
+        let Ok(()) = builder.push(0) else {
+            return Err(AllocError);
+        };
+        builder.finish(alloc)
+    }
+
+    #[test]
+    fn numbers_contracts(rt: HostRuntime) -> Result<(), Fail> {
+        let ranks = one_rank(rt.alloc())?;
+        let contracts = Contracts::build(rt.alloc(), &ranks)?;
+        assert_eq!(rt; contracts.owners(), [1, 0].as_slice());
+        assert!(rt; contracts.find(1, 0) == Some(0));
+        assert!(rt; contracts.find(2, 0) == None);
+        Ok(())
+    }
+}

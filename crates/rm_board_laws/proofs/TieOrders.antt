@@ -99,7 +99,7 @@ long_rank h [] = refl
 long_rank h (d ∷ rank) = ap suc (long_rank h rank)
 
 -- the place of a contract in its rank list is less than the longest list
-place_bound : (a h : ℕ) (ranks : List (List ℕ)) (x : ℕ) → x < length (pairs_from h ranks) → get_or (rank_places ranks) x 0 < fold max a (map length ranks)
+pub place_bound : (a h : ℕ) (ranks : List (List ℕ)) (x : ℕ) → x < length (pairs_from h ranks) → get_or (rank_places ranks) x 0 < fold max a (map length ranks)
 place_bound a h [] x lt = absurd (omega arith)
 place_bound a h (rank ∷ ranks) x lt =
     let l = length-append (own_pairs h rank) (pairs_from (h + 1) ranks) in
