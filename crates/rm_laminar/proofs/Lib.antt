@@ -1,0 +1,10 @@
+pub mod Counts
+pub mod Grown
+pub mod Laminar
+pub mod ListOfLists
+pub mod Loops
+pub mod Members
+pub mod Parents
+pub mod Told
+pub mod Order
+pub mod Trees

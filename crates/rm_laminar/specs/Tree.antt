@@ -1,0 +1,28 @@
+-- What a tree keeps, and what its calls answer.
+use Rattle.std.specs.Prelude.{◌≡◌, ◌+◌, ◌-◌, ◌<◌, ℕ, List, [], length, map, get_or, Option, Some, None, Result, Ok, Err}
+use Rattle.rm_sets.specs.Sets.{has, all_below}
+use Rattle.rm_market.specs.Tree.{below, least, sets_of, TreeOf}
+use Rattle.rm_market.specs.declared.TreeFault.{TreeFault}
+use Rattle.rm_market.specs.declared.TreeFault.TheVariants.{NoMemory}
+use Rattle.rm_laminar.specs.Chains.{AreChains, AreGroups}
+
+-- the groups of which chains tell: of each node past the hospitals, the hospitals that have it
+abbrev pub groups_in : ℕ → List (List ℕ) → List (List ℕ)
+groups_in nodes chains = map (λ g. all_below (length chains) (λ h. has (length chains + g) (get_or chains h []))) (below (nodes - length chains))
+
+-- the tree of which chains of so many nodes tell
+unfoldable pub told : ℕ → List (List ℕ) → TreeOf
+told nodes chains = record { hospitals = length chains; groups = groups_in nodes chains }
+
+-- the chains and the least hospitals of the nodes are those of the tree
+pub record IsKept (t : TreeOf) (chains : List (List ℕ)) (firsts : List ℕ) : Type 0 where
+  pub groups : AreGroups t.hospitals t.groups
+  pub built : AreChains t.hospitals t.groups chains
+  pub nodes : length firsts ≡ t.hospitals + length t.groups
+  pub firsts_are : (k : ℕ) → k < length firsts → get_or firsts k 0 ≡ least (sets_of t) k
+
+-- the answer to groups with this first fault
+abbrev pub Builds : Option TreeFault → TreeOf → Result TreeOf TreeFault → Type 0
+Builds first tree (Ok built) = (first ≡ None) × (built ≡ tree)
+Builds first tree (Err NoMemory) = Unit {0}
+Builds first tree (Err fault) = first ≡ Some fault

@@ -1,0 +1,141 @@
+//! The tree of a market's nodes, built from groups of hospitals.
+#![tactic(auto)]
+
+ghost use Rattle.std.specs.Prelude.{◌≡◌, ◌+◌, ◌<◌, ◌≤◌, ℕ, List, [], ◌∷◌, ◌++◌, length, map, get_or, slice_index, All, IfOk, fold, max, position, slice_get, ◌==◌};
+ghost use Rattle.rm_sets.specs.Sets.{IsSetBelow};
+ghost use Rattle.rm_market.specs.Tree.{below, tree_fault, sets_of, chain, parent, depth};
+ghost use Rattle.rm_laminar.specs.Chains.{lists_of, AreChains, AreGroups};
+ghost use Rattle.rm_laminar.specs.Tree.{IsKept, Builds};
+
+use crate::chains::chains_of;
+use crate::lists::Lists;
+pub use rm_market::TreeFault;
+use std::alloc::{AllocError, Global};
+use std::marker::Model;
+
+mod chains;
+mod lists;
+
+/// The tree of hospitals and groups: of two nodes one contains the other, or they share no hospital. Node h is the
+/// hospital h alone, and node `hospitals + g` is the group g. Of two equal sets the later declared one is outside.
+#[derive(Drop)]
+pub struct Tree {
+    chains: Lists,
+    firsts: Vec<u32>,
+}
+
+impl Model for Tree {
+    ghost use Rattle.std.specs.Prelude.{length};
+    ghost use Rattle.rm_market.specs.Tree.{TreeOf};
+    ghost use Rattle.rm_laminar.specs.Tree.{told, IsKept};
+
+    ghost Value = { TreeOf };
+
+    ghost view = { λ t. told (length t.firsts.items) t.chains };
+
+    ghost invariant = { λ t. IsKept (told (length t.firsts.items) t.chains) t.chains t.firsts.items };
+}
+
+// The least hospital of each node.
+fn firsts_of(alloc: Global, hospitals: u32, groups: &[Vec<u32>]) -> Result<Vec<u32>, AllocError>
+    ensures { IfOk result (λ v. v.items ≡ below hospitals ++ map (λ g. slice_index g 0) (lists_of groups.now)) }
+{
+    let mut firsts = Vec::new(alloc);
+    for h in 0..hospitals {
+        firsts.push(h)?;
+    }
+    for g in 0..groups.len() {
+        let first = groups[g].first().copied().unwrap_or(0);
+        firsts.push(first)?;
+    }
+    Ok(firsts)
+}
+
+// The place of a node in a chain.
+fn place_of(chain: &[u32], node: u32) -> Option<usize>
+    ensures { result ≡ position (λ k. k == node) chain.now }
+{
+    chain.iter().position(|k| *k == node)
+}
+
+// The item at a place of a chain.
+fn item(chain: &[u32], place: usize) -> Option<u32>
+    ensures { result ≡ slice_get chain.now place }
+{
+    chain.get(place).copied()
+}
+
+// The greatest length of a chain.
+fn depth_of(chains: &Lists) -> u32
+    requires few { length chains.now ≤ 10_000 }
+    requires shallow { (h : ℕ) → h < length chains.now → length (get_or chains.now h []) ≤ 32 }
+    ensures { result ≡ fold max 0 (map (λ h. length (get_or chains.now h [])) (below (length chains.now))) }
+{
+    let mut depth = 0;
+    for h in 0..chains.len() {
+        depth = depth.max(chains.list(h as u32).len() as u32);
+    }
+    depth
+}
+
+impl Tree {
+    /// Builds the tree of at most 10,000 hospitals and at most 5,000 groups. The first group with a fault decides.
+    ///
+    /// `Empty(b)` comes exactly where group b has no member. Else `Crossing` comes exactly where an earlier group and
+    /// group b share a hospital and each has one that the other lacks: a is the least such group, and the three hospitals
+    /// are the least ones in both, in a alone and in b alone. Else `Deep(b)` comes exactly where some hospital of b lies
+    /// in 32 of the groups 0 to b.
+    pub fn build(alloc: Global, hospitals: u32, groups: &[Vec<u32>]) -> Result<Tree, TreeFault>
+        requires few_hospitals { hospitals ≤ 10_000 }
+        requires few_groups { length groups.now ≤ 5_000 }
+        requires sets { All (λ g. IsSetBelow hospitals g.items) groups.now }
+        ensures { Builds (tree_fault (lists_of groups.now)) (record { hospitals = hospitals; groups = lists_of groups.now }) result }
+    {
+        let chains = chains_of(alloc, hospitals, groups)?;
+        let Ok(firsts) = firsts_of(alloc, hospitals, groups) else {
+            return Err(TreeFault::NoMemory);
+        };
+        Ok(Tree { chains, firsts })
+    }
+
+    /// The number of nodes.
+    pub fn nodes(&self) -> u32
+        ensures { result ≡ length (sets_of self.now) }
+    {
+        self.firsts.len() as u32
+    }
+
+    /// The number of hospitals.
+    pub fn hospitals(&self) -> u32
+        ensures { result ≡ self.now.hospitals }
+    {
+        self.chains.len() as u32
+    }
+
+    /// The nodes that contain a hospital, innermost first.
+    pub fn chain(&self, h: u32) -> &[u32]
+        requires { h < self.now.hospitals }
+        ensures { result.now ≡ chain (sets_of self.now) h }
+    {
+        self.chains.list(h)
+    }
+
+    /// The node just outside a node. None exactly where no node is outside it.
+    pub fn parent(&self, node: u32) -> Option<u32>
+        requires { node < length (sets_of self.now) }
+        ensures { result ≡ parent (sets_of self.now) node }
+    {
+        let chain = self.chains.list(self.firsts[node as usize]);
+        match place_of(chain, node) {
+            Some(place) => item(chain, place + 1),
+            None => None,
+        }
+    }
+
+    /// The greatest number of nodes that contain one hospital, 0 without hospitals.
+    pub fn depth(&self) -> u32
+        ensures { result ≡ depth (sets_of self.now) self.now.hospitals }
+    {
+        depth_of(&self.chains)
+    }
+}
