@@ -2,9 +2,6 @@
 
 // ---- files
 
-/// The file of a refusal that speaks of a word of the command line.
-pub const WORD_FILE: u8 = 0;
-
 /// The file `hospitals.csv`.
 pub const HOSPITALS_FILE: u8 = 1;
 
@@ -16,9 +13,6 @@ pub const RANKS_FILE: u8 = 3;
 
 /// The file `policy.toml`.
 pub const POLICY_FILE: u8 = 4;
-
-/// A command's own file.
-pub const OWN_FILE: u8 = 5;
 
 // ---- refusals of any file: `a` and `b` are 0
 
@@ -88,9 +82,6 @@ pub const UNKNOWN_ENTRY_NAME: u8 = 34;
 /// A second entry of the same name; `b` is the former item.
 pub const REPEATED_ENTRY: u8 = 35;
 
-/// Two groups that cross; `a` is the earlier item, `b` the later one.
-pub const CROSSING_GROUPS: u8 = 36;
-
 /// The steps of a run rise; `b` is the run.
 pub const STEPS_RISE: u8 = 37;
 
@@ -103,51 +94,11 @@ pub const WRONG_ORDER: u8 = 39;
 /// A hospital has more steps than seats; `b` is 0.
 pub const MORE_STEPS_THAN_SEATS: u8 = 40;
 
-/// A group without hospitals; `b` is 0.
-pub const EMPTY_GROUP: u8 = 41;
-
 /// The targets of a prefecture sum to more than its cap; `b` is their sum.
 pub const TARGETS_ABOVE_CAP: u8 = 42;
 
 /// More than a limit allows; `b` is the number of the limit.
 pub const TOO_MANY_ITEMS: u8 = 43;
-
-// ---- refusals of the listed tie order: `a` is an element, `b` a former one, unless the line says otherwise
-
-/// An element is no contract; `b` is 0.
-pub const NOT_A_CONTRACT_LISTED: u8 = 50;
-
-/// An element that stands before.
-pub const CONTRACT_REPEATED: u8 = 51;
-
-/// A contract is missing; `a` is its doctor and `b` its hospital, each counted from 1.
-pub const CONTRACT_MISSING: u8 = 52;
-
-/// An element stands against the rank list of its hospital.
-pub const AGAINST_RANK_LIST: u8 = 53;
-
-// ---- refusals of a command's own part: `a` is a row, `b` a field or a former row, unless the line says otherwise
-
-/// A doctor who is not known; for a word of the command line `a` is the word's number, counted from 1, and `b` is 0.
-pub const UNKNOWN_DOCTOR: u8 = 60;
-
-/// A hospital that is not known.
-pub const UNKNOWN_HOSPITAL: u8 = 61;
-
-/// A pair that is no listed contract.
-pub const NOT_LISTED: u8 = 62;
-
-/// A second row of the same doctor.
-pub const REPEATED_DOCTOR: u8 = 63;
-
-/// A doctor without a row; `a` is the doctor, counted from 1, and `b` is 0.
-pub const MISSING_DOCTOR: u8 = 64;
-
-/// A pair that is no contract.
-pub const NOT_A_CONTRACT: u8 = 65;
-
-/// A second row of the same contract.
-pub const REPEATED_CONTRACT: u8 = 66;
 
 // ---- limits
 
@@ -209,6 +160,3 @@ pub const GROUPS_LIMIT: u64 = 6;
 
 /// The number of the limit on runs of steps.
 pub const RUNS_LIMIT: u64 = 7;
-
-/// The number of the limit on nodes that contain one hospital.
-pub const DEPTH_LIMIT: u64 = 8;

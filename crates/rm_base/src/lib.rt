@@ -39,8 +39,11 @@ pub struct ListedPair {
 /// What adding a name answers.
 #[derive(Clone, Copy, Debug, PartialEq, Eq)]
 pub enum Added {
+    /// The name was added, and has this number.
     Added(u32),
+    /// The name was held before, with this number.
     There(u32),
+    /// Memory was wanting, and the names are as before.
     NoMemory,
 }
 
@@ -71,7 +74,8 @@ impl Names {
         }
     }
 
-    /// Adds a name that is not held, as the last. Where it is held, its number is answered and nothing changes.
+    /// Adds a name that is not held, as the last; fewer than 4,000,000,000 are held. Where it is held, its number is answered
+    /// and nothing changes.
     #[tactic(auto, using(crate::proofs::TextLemmas::position_map, std::proofs::lemmas::Grind::common_steps))]
     pub fn add(&mut self, name: &str) -> Added
         requires { length self.old < 4_000_000_000 }

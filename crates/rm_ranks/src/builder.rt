@@ -49,7 +49,7 @@ impl Model for ListsBuilder {
 }
 
 impl ListsBuilder {
-    /// So many empty lists, none of which is begun. Each item is below `items`, and the lists may hold `limit` items in all.
+    /// So many empty lists, none of which is begun. Each item will be below `items`, and all lists together may hold `limit` items.
     pub fn new(alloc: Global, lists: u32, items: u32, limit: u64) -> Result<ListsBuilder, NoMemory>
         ensures { IfOk result (λ b. b ≡ record { lists = replicate lists []; marks = replicate lists None; at = None; held = 0; items = items; limit = limit }) }
     {
@@ -63,7 +63,8 @@ impl ListsBuilder {
         })
     }
 
-    /// Begins list i, counted from 0. `RowRepeated` comes exactly where it was begun before, with its mark.
+    /// Begins list i, counted from 0, and keeps its mark. `RowRepeated` comes exactly where it was begun before, with its mark of
+    /// then. No other fault comes.
     pub fn row(&mut self, i: u32, mark: u64) -> Result<(), ListFault>
         requires { i < length self.old.lists }
         ensures { Begins self.old i mark self.new result }
@@ -79,8 +80,8 @@ impl ListsBuilder {
         Ok(())
     }
 
-    /// Adds an item to the list begun last. `Repeated` comes exactly where that list holds it, and else `TooMany` exactly
-    /// where all lists together hold as many items as they may.
+    /// Adds an item to the list begun last; one must have been begun. `Repeated` comes exactly where that list holds it, and
+    /// else `TooMany` exactly where all lists together hold as many items as they may.
     pub fn push(&mut self, item: u32) -> Result<(), ListFault>
         requires begun { IsSome self.old.at }
         requires item { item < self.old.items }
@@ -105,7 +106,7 @@ impl ListsBuilder {
         Ok(())
     }
 
-    /// The lists as built.
+    /// The lists as built. Where memory is wanting the builder is gone.
     pub fn finish(self, alloc: Global) -> Result<Lists, NoMemory>
         ensures lists { IfOk result (λ lists. lists ≡ self.lists) }
         ensures below { All (All (λ x. x < self.items)) self.lists }

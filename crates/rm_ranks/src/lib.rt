@@ -32,6 +32,11 @@ mod tests {
         let other = lists.with(rt.alloc(), 1, &[0])?;
         assert_eq!(rt; other.list(0), [1, 2].as_slice());
         assert_eq!(rt; other.list(1), [0].as_slice());
+        let copy = other.copy(rt.alloc())?;
+        assert_eq!(rt;
+            (copy.len(), copy.list(0), copy.list(1)),
+            (2, [1, 2].as_slice(), [0].as_slice())
+        );
         Ok(())
     }
 }

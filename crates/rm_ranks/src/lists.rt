@@ -55,7 +55,7 @@ impl Lists {
         self.packed.spans.len() as u32
     }
 
-    /// A copy.
+    /// The same lists.
     pub fn copy(&self, alloc: Global) -> Result<Lists, NoMemory>
         ensures { IfOk result (λ lists. lists ≡ self.now) }
     {

@@ -9,6 +9,7 @@ ghost use Rattle.rm_market.specs.Board.{int_sum, total};
 ghost use Rattle.rm_market.specs.Steps.{natural, step_fault, steps_of, run_steps, run_checks, is_outside, is_out_of_range, rises, last_step, AreSteps};
 ghost use Rattle.rm_steps.specs.Runs.{Accepts, Passes, step_at, sum_below};
 
+use rm_base::codes::{GREATEST_CAP, GREATEST_STEP};
 pub use rm_market::{Run, StepFault};
 use std::alloc::{AllocError, Global};
 use std::marker::Model;
@@ -16,11 +17,8 @@ use std::marker::Model;
 /// Want of memory.
 pub type NoMemory = AllocError;
 
-/// The greatest number of steps.
-const MOST_STEPS: i128 = 1_000_000;
-
-/// The greatest value of a step, either way.
-const GREATEST_STEP: i128 = 1_000_000_000;
+// The greatest number of steps.
+const MOST_STEPS: i128 = GREATEST_CAP as i128;
 
 /// A list of steps, the first seat's first. No step is greater than the one before it.
 #[derive(Drop)]
@@ -61,7 +59,7 @@ fn last_step(run: &Run) -> i128
 fn is_outside(step: i128) -> bool
     ensures { result ≡ is_outside step }
 {
-    step > GREATEST_STEP || step < -GREATEST_STEP
+    step > GREATEST_STEP as i128 || step < -(GREATEST_STEP as i128)
 }
 
 // Whether the count of a run, or its first or last step, is out of range, where the runs before it have so many steps.
@@ -175,7 +173,7 @@ impl Steps {
 
     /// So many steps of 0, at most 1,000,000.
     pub fn flat(alloc: Global, n: u32) -> Result<Steps, NoMemory>
-        requires { n ≤ 1_000_000 }
+        requires { n ≤ GREATEST_CAP }
         ensures flat { IfOk result (λ s. s ≡ replicate n (pos 0)) }
         ensures steps { IfOk result AreSteps }
     {

@@ -95,7 +95,8 @@ impl Model for Table {
 
 impl Table {
     /// Reads the rows of a text of CSV: commas, double quotes, records of any length. The bytes EF BB BF at its very
-    /// beginning are dropped.
+    /// beginning are dropped. From each cell spaces and tabs are dropped at both ends, and then empty cells at the end of a
+    /// record, and records without a cell. `BadText` comes exactly where a row that is left has a cell that isn't UTF-8.
     pub fn read(alloc: Global, bytes: &[u8]) -> Result<Table, TableFault>
         ensures { Reads bytes.now result }
     {
