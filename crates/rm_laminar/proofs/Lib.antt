@@ -1,4 +1,6 @@
+pub mod ChildLemmas
 pub mod Counts
+pub mod Firsts
 pub mod Grown
 pub mod Laminar
 pub mod ListOfLists

@@ -4,8 +4,7 @@ use Rattle.std.specs.Prelude.{slice_index}
 use Rattle.std.proofs.lemmas.Bool.{cases_lt, lt-ltb, eq-eqb}
 use Rattle.std.proofs.lemmas.List.{length-map, get_or-map, get_or_append_left, get_or-append-add}
 use Rattle.rm_sets.specs.Sets.{has, IsIn, IsSetBelow, all_below}
-use Rattle.rm_sets.proofs.Sets.{IsIn-here}
-use Rattle.rm_sets.proofs.Members.{all_below_has, IsIn-get_or, not_in_nil, place_from_IsIn}
+use Rattle.rm_sets.proofs.Members.{all_below_has, place_from_IsIn}
 use Rattle.std.specs.declared.alloc.Global.{Global}
 use Rattle.std.specs.List.{slice_get, position_or_len}
 use Rattle.std.proofs.lemmas.List.Sums.{fails_before_first}
@@ -16,7 +15,8 @@ use Rattle.rm_market.specs.Tree.{below, set_of, least, sets_of, tree_sets, chain
 use Rattle.rm_laminar.specs.Chains.{lists_of, AreChains, AreGroups}
 use Rattle.rm_laminar.specs.Tree.{groups_in, told, IsKept}
 use Rattle.rm_laminar.proofs.ListOfLists.{lists-length}
-use Rattle.rm_laminar.proofs.Laminar.{Holds, some-member, chain-same, holds-chain}
+use Rattle.rm_laminar.proofs.Laminar.{Holds, chain-same, holds-chain}
+use Rattle.rm_laminar.proofs.Firsts.{least-there}
 use Rattle.rm_laminar.proofs.Parents.{parent-next}
 use Rattle.rm_laminar.proofs.Trees.{length-below, get-below, tree-length, set-hospital, set-group}
 
@@ -85,29 +85,13 @@ nodes-count t chains firsts k = k.nodes ∙ sym (tree-length t.hospitals t.group
 pub kept-chain : (t : TreeOf) (chains : List (List ℕ)) (firsts : List ℕ) (h : ℕ) → IsKept t chains firsts → h < t.hospitals → get_or chains h [] ≡ chain (sets_of t) h
 kept-chain t chains firsts h k lt = chain-same (sets_of t) k.built.laminar h (get_or chains h []) (k.built.chains h lt)
 
-longer : (S : List ℕ) (x : ℕ) → IsIn x S → 0 < length S
-longer [] x i = absurd (not_in_nil x i)
-longer (y ∷ S) x i = omega arith
-
 -- the least hospital of a node is one of its own
 pub kept-first : (t : TreeOf) (chains : List (List ℕ)) (firsts : List ℕ) (k : ℕ) → IsKept t chains firsts → k < length (sets_of t) → Holds (sets_of t) (get_or firsts k 0) k × (get_or firsts k 0 < t.hospitals)
 kept-first t chains firsts k kept lt =
     let count = nodes-count t chains firsts kept in
     let first = kept.firsts_are k (omega (arith, lt, count)) in
-    let there = first-there t k kept.groups kept.built lt in
+    let there = least-there t.hospitals t.groups chains k kept.groups kept.built lt in
     (record { node = lt; has_leaf = rw first there.0 }, rw first there.1)
-  where
-    first-there : (t : TreeOf) (k : ℕ) → AreGroups t.hospitals t.groups → AreChains t.hospitals t.groups chains → k < length (sets_of t) → IsIn (least (sets_of t) k) (set_of (sets_of t) k) × (least (sets_of t) k < t.hospitals)
-    first-there t k gs c lt = ⊎_elim
-        (λ (less : k < t.hospitals). rw (set-hospital t.hospitals t.groups k less) (IsIn-here k [], less))
-        (λ (le : t.hospitals ≤ k).
-        let place : k ≡ t.hospitals + (k - t.hospitals) = omega arith in
-        let within : k - t.hospitals < length t.groups = (let n = rw tree-length at lt in omega arith) in
-        let some = some-member (get_or t.groups (k - t.hospitals) []) (c.filled (k - t.hospitals) within) in
-        let long = longer (get_or t.groups (k - t.hospitals) []) some.0 some.1 in
-        let first = IsIn-get_or (get_or t.groups (k - t.hospitals) []) 0 0 long in
-        rw (place, set-group t.hospitals t.groups (k - t.hospitals)) (first, (gs.sets (k - t.hospitals) within).below (get_or (get_or t.groups (k - t.hospitals) []) 0 0) first))
-        (cases_lt k t.hospitals)
 
 pub groups-are : (hospitals : ℕ) (groups : List (Vec ℕ Global)) → hospitals ≤ 10000 → length groups ≤ 5000 → All (λ g. IsSetBelow hospitals g.items) groups → AreGroups hospitals (lists_of groups)
 groups-are hospitals groups few_h few_g sets = record {
@@ -152,3 +136,11 @@ some-place t chains firsts k kept lt e =
     let first = kept-first t chains firsts k kept lt in
     let there = holds-chain (sets_of t) (get_or firsts k 0) k (get_or chains (get_or firsts k 0) []) (kept.built.chains (get_or firsts k 0) first.1) first.0 in
     nowhere (get_or chains (get_or firsts k 0) []) k there e
+
+-- the least hospitals of the nodes, by number
+pub kept-firsts : (hospitals : ℕ) (groups chains : List (List ℕ)) (firsts : List ℕ) → AreGroups hospitals groups → AreChains hospitals groups chains → firsts ≡ below hospitals ++ map (λ g. slice_index g 0) groups
+    → (length firsts ≡ hospitals + length groups) × ((k : ℕ) → k < length firsts → get_or firsts k 0 ≡ least (tree_sets hospitals groups) k)
+kept-firsts hospitals groups chains firsts gs c is =
+    let k = kept hospitals groups chains firsts gs c is in
+    let good : IsKept (record { hospitals = hospitals; groups = groups }) chains firsts = rw k.0 at k.1 in
+    (good.nodes, good.firsts_are)

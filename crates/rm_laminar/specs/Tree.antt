@@ -1,7 +1,7 @@
 -- What a tree keeps, and what its calls answer.
 use Rattle.std.specs.Prelude.{◌≡◌, ◌+◌, ◌-◌, ◌<◌, ℕ, List, [], length, map, get_or, Option, Some, None, Result, Ok, Err}
 use Rattle.rm_sets.specs.Sets.{has, all_below}
-use Rattle.rm_market.specs.Tree.{below, least, sets_of, TreeOf}
+use Rattle.rm_market.specs.Tree.{below, least, children, sets_of, TreeOf}
 use Rattle.rm_market.specs.declared.TreeFault.{TreeFault}
 use Rattle.rm_market.specs.declared.TreeFault.TheVariants.{NoMemory}
 use Rattle.rm_laminar.specs.Chains.{AreChains, AreGroups}
@@ -26,3 +26,8 @@ abbrev pub Builds : Option TreeFault → TreeOf → Result TreeOf TreeFault → 
 Builds first tree (Ok built) = (first ≡ None) × (built ≡ tree)
 Builds first tree (Err NoMemory) = Unit {0}
 Builds first tree (Err fault) = first ≡ Some fault
+
+-- the children of each node
+pub record AreChildren (t : TreeOf) (lists : List (List ℕ)) : Type 0 where
+  pub lengths : length lists ≡ length (sets_of t)
+  pub each : (n : ℕ) → n < length (sets_of t) → get_or lists n [] ≡ children (sets_of t) n

@@ -3,17 +3,19 @@
 
 ghost use Rattle.std.specs.Prelude.{◌≡◌, ◌+◌, ◌<◌, ◌≤◌, ℕ, List, [], ◌∷◌, ◌++◌, length, map, get_or, slice_index, All, IfOk, fold, max, position, slice_get, ◌==◌};
 ghost use Rattle.rm_sets.specs.Sets.{IsSetBelow};
-ghost use Rattle.rm_market.specs.Tree.{below, tree_fault, sets_of, chain, parent, depth};
+ghost use Rattle.rm_market.specs.Tree.{below, tree_fault, sets_of, chain, children, parent, depth};
 ghost use Rattle.rm_laminar.specs.Chains.{lists_of, AreChains, AreGroups};
 ghost use Rattle.rm_laminar.specs.Tree.{IsKept, Builds};
 
 use crate::chains::chains_of;
+use crate::children::children_of;
 use crate::lists::Lists;
 pub use rm_market::TreeFault;
 use std::alloc::{AllocError, Global};
 use std::marker::Model;
 
 mod chains;
+mod children;
 mod lists;
 
 /// The tree of hospitals and groups: of two nodes one contains the other, or they share no hospital. Node h is the
@@ -22,18 +24,19 @@ mod lists;
 pub struct Tree {
     chains: Lists,
     firsts: Vec<u32>,
+    children: Lists,
 }
 
 impl Model for Tree {
     ghost use Rattle.std.specs.Prelude.{length};
     ghost use Rattle.rm_market.specs.Tree.{TreeOf};
-    ghost use Rattle.rm_laminar.specs.Tree.{told, IsKept};
+    ghost use Rattle.rm_laminar.specs.Tree.{told, IsKept, AreChildren};
 
     ghost Value = { TreeOf };
 
     ghost view = { λ t. told (length t.firsts.items) t.chains };
 
-    ghost invariant = { λ t. IsKept (told (length t.firsts.items) t.chains) t.chains t.firsts.items };
+    ghost invariant = { λ t. IsKept (told (length t.firsts.items) t.chains) t.chains t.firsts.items × AreChildren (told (length t.firsts.items) t.chains) t.children };
 }
 
 // The least hospital of each node.
@@ -95,7 +98,14 @@ impl Tree {
         let Ok(firsts) = firsts_of(alloc, hospitals, groups) else {
             return Err(TreeFault::NoMemory);
         };
-        Ok(Tree { chains, firsts })
+        let Ok(children) = children_of(alloc, &chains, groups, &firsts) else {
+            return Err(TreeFault::NoMemory);
+        };
+        Ok(Tree {
+            chains,
+            firsts,
+            children,
+        })
     }
 
     /// The number of nodes.
@@ -110,6 +120,14 @@ impl Tree {
         ensures { result ≡ self.now.hospitals }
     {
         self.chains.len() as u32
+    }
+
+    /// The nodes just inside a node, by their least hospital.
+    pub fn children(&self, node: u32) -> &[u32]
+        requires { node < length (sets_of self.now) }
+        ensures { result.now ≡ children (sets_of self.now) node }
+    {
+        self.children.list(node)
     }
 
     /// The nodes that contain a hospital, innermost first.

@@ -1,13 +1,37 @@
+use Rattle.std.proofs.Common.{refl}
 use Rattle.rm_laminar.specs.Chains.{lists_of}
-use Rattle.rm_laminar.proofs.Told.{kept, groups-are}
+use Rattle.rm_laminar.proofs.ListOfLists.{lists-length}
+use Rattle.rm_laminar.proofs.Told.{kept, kept-firsts, groups-are}
 use Rattle.rm_laminar.proofs.Tree.build.Goals as goal
 
 pub chains_of-requires : goal.chains_of-requires
 chains_of-requires c = groups-are c.args.hospitals c.args.groups.now c.requires.few_hospitals c.requires.few_groups c.requires.sets
 
+pub children_of-requires-clause-chains : goal.children_of-requires-clause-chains
+children_of-requires-clause-chains c =
+    let built = c.in_ok-chains.ensures.1 in
+    rw built.each_hospital built
+
+pub children_of-requires-clause-groups : goal.children_of-requires-clause-groups
+children_of-requires-clause-groups c = rw c.in_ok-chains.ensures.1.each_hospital (groups-are c.args.hospitals c.args.groups.now c.requires.few_hospitals c.requires.few_groups c.requires.sets)
+
+pub children_of-requires-clause-nodes : goal.children_of-requires-clause-nodes
+children_of-requires-clause-nodes c =
+    let built = c.in_ok-chains.ensures.1 in
+    let first = kept-firsts c.args.hospitals (lists_of c.args.groups.now) c.in_ok-chains.chains c.in-Ok.firsts.items (groups-are c.args.hospitals c.args.groups.now c.requires.few_hospitals c.requires.few_groups c.requires.sets) built c.in-Ok.ensures in
+    rw (c.deref.ensures.value, built.each_hospital, first.0, lists-length) refl
+
+pub children_of-requires-clause-firsts : goal.children_of-requires-clause-firsts
+children_of-requires-clause-firsts c =
+    let built = c.in_ok-chains.ensures.1 in
+    let first = kept-firsts c.args.hospitals (lists_of c.args.groups.now) c.in_ok-chains.chains c.in-Ok.firsts.items (groups-are c.args.hospitals c.args.groups.now c.requires.few_hospitals c.requires.few_groups c.requires.sets) built c.in-Ok.ensures in
+    rw (c.deref.ensures.value, built.each_hospital) first.1
+
 pub invariant_of-result : goal.invariant_of-result
 invariant_of-result c =
-    (kept c.args.hospitals (lists_of c.args.groups.now) c.in_ok-chains.chains c.in-Ok.firsts.items (groups-are c.args.hospitals c.args.groups.now c.requires.few_hospitals c.requires.few_groups c.requires.sets) c.in_ok-chains.ensures.1 c.in-Ok.ensures).1
+    let k = kept c.args.hospitals (lists_of c.args.groups.now) c.in_ok-chains.chains c.in-Ok.firsts.items (groups-are c.args.hospitals c.args.groups.now c.requires.few_hospitals c.requires.few_groups c.requires.sets) c.in_ok-chains.ensures.1 c.in-Ok.ensures in
+    let told_children = rw c.in_ok-chains.ensures.1.each_hospital at c.in-Ok-children_of.ensures in
+    (k.1, rw k.0 told_children)
 
 pub returns : goal.returns
 returns c = (
