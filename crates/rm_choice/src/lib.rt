@@ -128,3 +128,6 @@ pub trait Holder {
     /// The held set is its own choice.
     ghost settled: { (h : Self) → chosen h (held h) ≡ held h };
 }
+
+#[cfg(test)]
+mod tests;
