@@ -19,8 +19,8 @@ pub use room::Room;
 /// The want of memory.
 pub type NoMemory = std::alloc::AllocError;
 
-/// Feasible sets of contracts, with a worth for each and a tie order. A set of contracts is strictly ascending, and each is
-/// below the number of contracts.
+/// Feasible sets of contracts, with a worth for each and a tie order. A set of contracts is a strictly ascending list of
+/// numbers below the number of contracts.
 pub trait Valuation {
     /// How many contracts there are.
     ghost count: { Self → ℕ };
@@ -32,12 +32,13 @@ pub trait Valuation {
     fn contracts(&self) -> u32
         ensures { result ≡ count self.now };
 
-    /// The empty set and each subset of a feasible set are feasible, and contracts of two feasible sets can be exchanged
-    /// without loss (Kojima, Tamura and Yokoo 2018).
+    /// The empty set and each subset of a feasible set are feasible. Of two feasible sets, a contract that one alone has can be
+    /// moved to the other, alone or in exchange, and some contract of the larger set to the smaller one, without loss in the
+    /// sum of the worths (M-natural concavity; Kojima, Tamura and Yokoo 2018).
     ghost lawful: { (v : Self) → IsValuation (count v) (values v) };
 }
 
-/// What is chosen of each set of contracts.
+/// What is chosen of each set of contracts, as by a hospital or a region.
 pub trait Choice {
     /// How many contracts there are.
     ghost count: { Self → ℕ };
@@ -65,7 +66,8 @@ pub trait Choice {
         ensures within { result ≤ length room.new.list }
         ensures room { IsAsLarge room.old room.new };
 
-    /// Substitutes and the law of aggregate demand.
+    /// What is chosen was offered; to leave out what is rejected changes nothing; substitutes; and the law of aggregate demand
+    /// (Hatfield and Milgrom 2005, Aygun and Sonmez).
     ghost lawful: { (c : Self) → IsChoice (count c) (chosen c) };
 }
 
@@ -87,6 +89,7 @@ pub trait Parts {
     fn contracts(&self) -> u32
         ensures { result ≡ count self.now };
 
+    /// Each contract is in one of the parts.
     ghost within: { (p : Self) (x : ℕ) → x < count p → part p x < parts p };
 }
 
@@ -120,11 +123,15 @@ pub trait Holder {
         ensures chosen { chosen self.new ≡ chosen self.old }
         ensures count { count self.new ≡ count self.old };
 
-    /// Substitutes and the law of aggregate demand.
+    /// The laws of a choice.
     ghost lawful: { (h : Self) → IsChoice (count h) (chosen h) };
 
+    /// What is held is a set of contracts.
     ghost is_set: { (h : Self) → IsSetBelow (count h) (held h) };
 
     /// The held set is its own choice.
     ghost settled: { (h : Self) → chosen h (held h) ≡ held h };
 }
+
+#[cfg(test)]
+mod tests;

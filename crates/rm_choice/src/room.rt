@@ -26,7 +26,7 @@ impl Model for Room {
 }
 
 impl Room {
-    /// Room for so many contracts and nodes.
+    /// Room for so many contracts and nodes. It takes all memory that the calls need to which it is lent.
     pub fn new(alloc: Global, contracts: u32, nodes: u32) -> Result<Room, NoMemory>
         ensures contracts { IfOk result (λ r. r.contracts ≡ contracts) }
         ensures nodes { IfOk result (λ r. r.nodes ≡ nodes) }

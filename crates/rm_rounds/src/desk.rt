@@ -64,7 +64,8 @@ impl<'a, H: Holder> Desk<'a, H> {
         })
     }
 
-    /// The turn of doctor d: he offers his next contract, unless he is held (`Idle`) or has offered all (`Done`).
+    /// The turn of doctor d, counted from 0: he offers his next contract, and the outcome is the holder's, unless he is held
+    /// (`Idle`) or has offered all (`Done`); then nothing changes.
     pub fn offer(&mut self, d: u32) -> Turn
         requires doctor { d < length self.old.wishes.listed }
         ensures state { desk_state H.held self.new ≡ after_turn (H.chosen self.old.holder) self.old.wishes (desk_state H.held self.old) d }
@@ -82,7 +83,7 @@ impl<'a, H: Holder> Desk<'a, H> {
         )
     }
 
-    /// Doctors take turns until nobody can offer.
+    /// Doctors take turns until nobody can offer. Then what is held is the one optimal set, in whatever order they offered.
     pub fn close_all(&mut self)
         ensures reached { (ds : List ℕ) × (desk_state H.held self.new ≡ run (H.chosen self.old.holder) self.old.wishes (desk_state H.held self.old) ds) }
         ensures closed { IsClosed (H.chosen self.new.holder) self.new.wishes (desk_state H.held self.new) }
