@@ -4,10 +4,11 @@ use Rattle.std.specs.Bool.{◌==◌}
 use Rattle.std.specs.List.{sum_by, position, position_from, AllByRecursion}
 use Rattle.std.proofs.lemmas.Bool.{cases_lt}
 use Rattle.std.proofs.lemmas.Bool.Decides.{nat_tests}
-use Rattle.std.proofs.lemmas.List.{take_all, get_or_append_left, get_or_push, append-nil, length-map, map-append, take_more, length-take-le}
+use Rattle.std.proofs.lemmas.List.{get_or-map, take_all, get_or_append_left, get_or_push, append-nil, length-map, map-append, take_more, length-take-le}
 use Rattle.std.proofs.lemmas.Iterator.Adapters.{position_from-zero}
 use Rattle.std.proofs.lemmas.List.Quantifiers.{position-Some}
 use Rattle.std.proofs.lemmas.List.Sums.{sum_by-cons}
+use Rattle.rm_board_laws.proofs.Contracts.{pair_in}
 use Rattle.rm_market.specs.Board.{pairs_from, pairs_of, number_of}
 use Rattle.rm_board.specs.Numbers.{owners_of_ranks, AreContracts}
 
@@ -65,11 +66,11 @@ past : {X : Type 0} (t : X → Bool) (k : ℕ) (xs ys : List X) → AllByRecursi
 past t k [] ys none = rw add-zero refl
 past t k (x ∷ xs) ys none = let e : k + 1 + length xs ≡ k + suc (length xs) = omega arith in rw (none.0, ← e) (past t (k + 1) xs ys none.1)
 
-none-after : {X : Type 0} (t : X → Bool) (k : ℕ) (xs ys : List X) → ((n : ℕ) → position_from t n ys ≡ None) → position_from t k (xs ++ ys) ≡ position_from t k xs
+pub none-after : {X : Type 0} (t : X → Bool) (k : ℕ) (xs ys : List X) → ((n : ℕ) → position_from t n ys ≡ None) → position_from t k (xs ++ ys) ≡ position_from t k xs
 none-after t k [] ys none = none k
 none-after t k (x ∷ xs) ys none = rw (none-after t (k + 1) xs ys none) refl
 
-shifted : {X : Type 0} (t : X → Bool) (k j : ℕ) (xs : List X) → position_from t (k + j) xs ≡ option_map (λ i. k + i) (position_from t j xs)
+pub shifted : {X : Type 0} (t : X → Bool) (k j : ℕ) (xs : List X) → position_from t (k + j) xs ≡ option_map (λ i. k + i) (position_from t j xs)
 shifted t k j [] = refl
 shifted t k j (x ∷ xs) =
     let e : k + j + 1 ≡ k + (j + 1) = omega arith in
@@ -179,3 +180,8 @@ module _ (ranks : List (List ℕ)) (h : ℕ) (doctors hospitals starts : List �
 pub rank-fits : (ranks : List (List ℕ)) (h : ℕ) → h < length ranks → length (pairs_of ranks) < 4_000_000_000 → length (get_or ranks h []) < 4_000_000_000
 rank-fits ranks h lt few =
     omega (arith, pairs-front ranks (h + 1), ap length (pairs-more ranks h lt), length-append (pairs_of (take h ranks)) (own h (get_or ranks h [])), length-own h (get_or ranks h []))
+
+pub hospital-below : (ranks : List (List ℕ)) (hospitals : List ℕ) (x h : ℕ) → hospitals ≡ map (λ p. p.1) (pairs_of ranks) → x < length (pairs_of ranks) → h ≡ get_or hospitals x h → h < length ranks
+hospital-below ranks hospitals x h are lt read =
+    let e : h ≡ (get_or (pairs_of ranks) x (0, 0)).1 = (rw are at read) ∙ get_or-map (λ (p : ℕ × ℕ). p.1) (pairs_of ranks) x (0, 0) h lt in
+    omega (arith, e, (pair_in 0 ranks x lt).1)

@@ -1,2 +1,4 @@
 pub mod Numbers
 pub mod Listed
+pub mod ListedElements
+pub mod Rules

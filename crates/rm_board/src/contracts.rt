@@ -58,7 +58,8 @@ impl Contracts {
 
     /// How many contracts there are.
     pub fn count(&self) -> u32
-        ensures { result ≡ length (pairs_of self.now) }
+        ensures count { result ≡ length (pairs_of self.now) }
+        ensures few { result < 4_000_000_000 }
     {
         self.doctors.len() as u32
     }
@@ -74,7 +75,8 @@ impl Contracts {
     /// The hospital of contract x.
     pub fn hospital(&self, x: u32) -> u32
         requires { x < length (pairs_of self.now) }
-        ensures { result ≡ hospital_of_number self.now x }
+        ensures hospital { result ≡ hospital_of_number self.now x }
+        ensures below { result < length self.now }
     {
         self.hospitals[x as usize]
     }
@@ -107,7 +109,7 @@ impl Contracts {
     pub fn find(&self, d: u32, h: u32) -> Option<u32>
         requires { h < length self.now }
         ensures number { result ≡ number_of self.now d h }
-        ensures below { IfSome result (λ x. x < length (pairs_of self.now)) }
+        ensures below { IfSome result (λ x. (x < length (pairs_of self.now)) × (x < 4_000_000_000)) }
     {
         match self.ranks.place(h, d) {
             Some(place) => Some(self.starts[h as usize] + place),

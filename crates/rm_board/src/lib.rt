@@ -5,10 +5,14 @@ ghost use Rattle.std.specs.Prelude.{◌≡◌, ◌≤◌, length, IfOk};
 ghost use Rattle.std.specs.List.{sum_by};
 
 mod contracts;
+mod listing;
 mod orders;
+mod ties;
 mod wishes;
 
 pub use contracts::{Contracts, NoMemory};
+pub use rm_market::BoardFault;
+pub use ties::{TieRule, tie_order};
 pub use wishes::listed;
 
 #[cfg(test)]
