@@ -1,0 +1,5 @@
+pub mod FirstFew
+pub mod FirstSeats
+pub mod Marks
+pub mod PlainStable
+pub mod FillingSeats
