@@ -11,7 +11,7 @@ use Rattle.rm_sets.proofs.Members.{not_in_nil}
 use Rattle.rm_sets.proofs.Sizes.{length_within, same_from_length}
 use Rattle.rm_market.specs.Board.{is_empty, crosses}
 use Rattle.rm_market.specs.Tree.{put, set_of, tree_sets, is_inside}
-use Rattle.rm_laminar.specs.Chains.{IsLaminar, IsChain, AreChains, AreGroups, ArePut, is_larger}
+use Rattle.rm_laminar.specs.Chains.{IsLaminar, IsChain, AreChains, AreGroups, AreChanged, is_larger}
 use Rattle.rm_laminar.proofs.Order.{put-ordered, put-by, has-put, ordered-by}
 use Rattle.rm_laminar.proofs.Laminar.{Holds, nested, inside-order, inside-within, inside-before, inside-from, chain-holds}
 use Rattle.rm_laminar.proofs.Trees.{tree-length, tree-push, set-hospital, set-group, push-old, push-new, push-length, tree-are_sets}
@@ -180,7 +180,7 @@ laminar-more hospitals groups group g l s apart =
 -- a group that crosses none, and doesn't go too deep
 pub chains-more : (hospitals : ℕ) (groups lists new : List (List ℕ)) (group : List ℕ) → AreGroups hospitals groups → AreChains hospitals groups lists → IsSetBelow hospitals group
     → is_empty group ≡ false → position (λ earlier. crosses earlier group) groups ≡ None → list_any (λ h. nat_le 32 (length (get_or lists h []))) group ≡ false
-    → ArePut (is_larger (length group) (tree_sets hospitals groups)) (hospitals + length groups) lists new group
+    → AreChanged (put (is_larger (length group) (tree_sets hospitals groups)) (hospitals + length groups)) lists new group
     → AreChains hospitals (groups ++ group ∷ []) new
 chains-more hospitals groups lists new group g c s some apart shallow p =
     let l = laminar-more hospitals groups group g c.laminar s apart in

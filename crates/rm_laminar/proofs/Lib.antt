@@ -10,3 +10,4 @@ pub mod Parents
 pub mod Told
 pub mod Order
 pub mod Trees
+pub mod WalkLemmas

@@ -1,7 +1,7 @@
 -- The steps of the loops over a group and over groups.
-use Rattle.std.proofs.Common.{◌≡◌, ◌∙◌, ℕ, zero, suc, ◌+◌, ◌<◌, ◌≤◌, ◌^◌, List, [], ◌∷◌, ◌++◌, Bool, true, false, not, cond, ◌||◌, ◌&&◌, eqb, ltb, get_or, set, insert, length, take, replicate, count_by, position, Option, Some, None, Err, All, refl, sym, ap, ⊎_elim, arith}
+use Rattle.std.proofs.Common.{◌≡◌, ◌∙◌, ℕ, zero, suc, ◌+◌, ◌<◌, ◌≤◌, ◌^◌, List, [], ◌∷◌, ◌++◌, Bool, true, false, cond, ◌||◌, ◌&&◌, eqb, ltb, get_or, set, length, take, replicate, count_by, position, Option, Some, None, Err, All, refl, sym, ap, ⊎_elim, arith}
 use Rattle.std.specs.Prelude.{nat_le, option_map}
-use Rattle.std.specs.List.{list_any, prefix_len}
+use Rattle.std.specs.List.{list_any}
 use Rattle.std.proofs.lemmas.Bool.{cases_lt, cases_eq, eq-eqb, ne_eqb, lt-ltb, le-ltb}
 use Rattle.std.proofs.lemmas.List.{take_more, take_all, length-set, get_or-set_same, get_or-set_other, get_or_past, length-replicate, get_or-replicate, get_or-take}
 use Rattle.std.proofs.lemmas.List.Sums.{count_by-le-length}
@@ -13,12 +13,12 @@ use Rattle.rm_market.specs.Board.{is_empty, crosses}
 use Rattle.rm_market.specs.Tree.{set_of, tree_sets, put, crossing, group_checks, tree_fault}
 use Rattle.rm_market.specs.declared.TreeFault.{TreeFault}
 use Rattle.rm_market.specs.declared.TreeFault.TheVariants.{Empty, Crossing, Deep, NoMemory}
-use Rattle.rm_laminar.specs.Chains.{IsOrdered, Passes, HasChains, AreChains, AreGroups, ArePut, is_larger}
+use Rattle.rm_laminar.specs.Chains.{IsOrdered, Passes, HasChains, AreChains, AreGroups, AreChanged, is_larger}
 use Rattle.rm_laminar.proofs.Laminar.{chain-holds}
 use Rattle.rm_laminar.proofs.Trees.{tree-length, set-hospital, tree-are_sets}
 use Rattle.rm_laminar.proofs.Counts.{one-count, count-push, deep-same}
-use Rattle.rm_laminar.proofs.Grown.{put-at, chains-more, single-crosses}
-use Rattle.rm_laminar.proofs.Members.{has-more, new-member, flip}
+use Rattle.rm_laminar.proofs.Grown.{chains-more, single-crosses}
+use Rattle.rm_laminar.proofs.Members.{has-more, flip}
 
 -- ---- counting
 
@@ -51,36 +51,31 @@ nodes-below hospitals groups lists h c lt = All-from_members (λ (k : ℕ). k < 
 
 -- ---- putting
 
-pub none-put : (test : ℕ → ℕ → Bool) (n : ℕ) (old : List (List ℕ)) → ArePut test n old old []
-none-put test n old = record { lengths = refl; each = λ h lt. refl }
+pub none-changed : (change : List ℕ → List ℕ) (old : List (List ℕ)) → AreChanged change old old []
+none-changed change old = record { lengths = refl; each = λ h lt. refl }
 
-pub put-here : (test : ℕ → ℕ → Bool) (n i : ℕ) (old now : List (List ℕ)) (group : List ℕ) → ArePut test n old now (take i group) → IsSetBelow (length old) group → i < length group
-    → get_or now (get_or group i 0) [] ≡ get_or old (get_or group i 0) []
-put-here test n i old now group p s lt =
-    let new = new-member group i s.ascending lt in
-    p.each (get_or group i 0) (s.below (get_or group i 0) (IsIn-get_or group i 0 lt)) ∙ rw new refl
+pub unchanged : (change : List ℕ → List ℕ) (h : ℕ) (old now : List (List ℕ)) (done : List ℕ) → AreChanged change old now done → has h done ≡ false → h < length old → get_or now h [] ≡ get_or old h []
+unchanged change h old now done p fresh below = p.each h below ∙ rw fresh refl
 
-pub put-more : (test : ℕ → ℕ → Bool) (n i place : ℕ) (old now new : List (List ℕ)) (group : List ℕ) → ArePut test n old now (take i group) → IsSetBelow (length old) group → i < length group
-    → place ≡ prefix_len (λ k. not (test n k)) (get_or now (get_or group i 0) []) → new ≡ set now (get_or group i 0) (insert (get_or now (get_or group i 0) []) place n)
-    → ArePut test n old new (take (i + 1) group)
-put-more test n i place old now new group p s lt at is =
-    let h : ℕ = get_or group i 0 in
-    let here = put-here test n i old now group p s lt in
-    let below = s.below h (IsIn-get_or group i 0 lt) in
-    let done : new ≡ set now h (put test n (get_or old h [])) = is ∙ rw (at, put-at test n (get_or now h []), here) refl in
+pub one-changed : (change : List ℕ → List ℕ) (i : ℕ) (old now new : List (List ℕ)) (asked : List ℕ) → AreChanged change old now (take i asked) → i < length asked → has (get_or asked i 0) (take i asked) ≡ false → get_or asked i 0 < length old
+    → new ≡ set now (get_or asked i 0) (change (get_or now (get_or asked i 0) [])) → AreChanged change old new (take (i + 1) asked)
+one-changed change i old now new asked p lt fresh below is =
+    let h : ℕ = get_or asked i 0 in
+    let here = unchanged change h old now (take i asked) p fresh below in
+    let done : new ≡ set now h (change (get_or old h [])) = is ∙ rw here refl in
     record {
       lengths = rw (done, length-set) p.lengths;
-      each = λ x less. rw (done, has-more group i x lt) (⊎_elim
-          (λ (same : x ≡ h). rw (same, eq-eqb h h refl, get_or-set_same now h (put test n (get_or old h [])) [] (let e = p.lengths in omega arith)) (or_true (has h (take i group))))
-          (λ apart. rw (get_or-set_other now h x (put test n (get_or old h [])) [] apart, ne_eqb x h apart) (p.each x less ∙ or_false (has x (take i group)) x))
+      each = λ x less. rw (done, has-more asked i x lt) (⊎_elim
+          (λ (same : x ≡ h). rw (same, eq-eqb h h refl, get_or-set_same now h (change (get_or old h [])) [] (let e = p.lengths in omega arith)) (or_true (has h (take i asked))))
+          (λ apart. rw (get_or-set_other now h x (change (get_or old h [])) [] apart, ne_eqb x h apart) (p.each x less ∙ or_false (has x (take i asked)) x))
           (cases_eq x h));
     }
   where
-    or_true : (b : Bool) → put test n (get_or old (get_or group i 0) []) ≡ cond (b || true) (put test n (get_or old (get_or group i 0) [])) (get_or old (get_or group i 0) [])
+    or_true : (b : Bool) → change (get_or old (get_or asked i 0) []) ≡ cond (b || true) (change (get_or old (get_or asked i 0) [])) (get_or old (get_or asked i 0) [])
     or_true true = refl
     or_true false = refl
 
-    or_false : (b : Bool) (x : ℕ) → cond b (put test n (get_or old x [])) (get_or old x []) ≡ cond (b || false) (put test n (get_or old x [])) (get_or old x [])
+    or_false : (b : Bool) (x : ℕ) → cond b (change (get_or old x [])) (get_or old x []) ≡ cond (b || false) (change (get_or old x [])) (get_or old x [])
     or_false true x = refl
     or_false false x = refl
 
@@ -203,7 +198,7 @@ passed groups group e =
 
 pub one-read : (hospitals : ℕ) (groups lists new : List (List ℕ)) (b : ℕ) (group : List ℕ) → AreGroups hospitals groups → AreRead hospitals groups b lists → b < length groups → group ≡ get_or groups b []
     → first_of (group_checks (take b groups) group) ≡ None
-    → ArePut (is_larger (length group) (tree_sets hospitals (take b groups))) (hospitals + length (take b groups)) lists new group
+    → AreChanged (put (is_larger (length group) (tree_sets hospitals (take b groups))) (hospitals + length (take b groups))) lists new group
     → AreRead hospitals groups (b + 1) new
 one-read hospitals groups lists new b group g r lt at passes p =
     let next : take (b + 1) groups ≡ take b groups ++ group ∷ [] = take_more groups b [] lt ∙ ap (λ (q : List ℕ). take b groups ++ q ∷ []) (sym at) in

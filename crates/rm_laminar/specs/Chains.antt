@@ -3,7 +3,7 @@ use Rattle.std.specs.Prelude.{◌≡◌, ◌+◌, ◌<◌, ◌≤◌, ◌&&◌, 
 use Rattle.std.specs.Global.{Vec}
 use Rattle.rm_sets.specs.Sets.{has, IsIn, IsSet, IsSetBelow}
 use Rattle.rm_market.specs.Board.{is_empty, crosses}
-use Rattle.rm_market.specs.Tree.{put, set_of, is_inside, tree_sets}
+use Rattle.rm_market.specs.Tree.{set_of, is_inside, tree_sets}
 use Rattle.rm_market.specs.declared.TreeFault.{TreeFault}
 use Rattle.rm_market.specs.declared.TreeFault.TheVariants.{NoMemory}
 
@@ -41,10 +41,10 @@ pub record AreGroups (hospitals : ℕ) (groups : List (List ℕ)) : Type 0 where
   pub few_groups : length groups ≤ 5000
   pub sets : (g : ℕ) → g < length groups → IsSetBelow hospitals (get_or groups g [])
 
--- into each list that is asked for, n was put by the test
-pub record ArePut (test : ℕ → ℕ → Bool) (n : ℕ) (old new : List (List ℕ)) (asked : List ℕ) : Type 0 where
+-- each list that is asked for was changed
+pub record AreChanged (change : List ℕ → List ℕ) (old new : List (List ℕ)) (asked : List ℕ) : Type 0 where
   pub lengths : length new ≡ length old
-  pub each : (h : ℕ) → h < length old → get_or new h [] ≡ (if has h asked then put test n (get_or old h []) else get_or old h [])
+  pub each : (h : ℕ) → h < length old → get_or new h [] ≡ (if has h asked then change (get_or old h []) else get_or old h [])
 
 -- node k is larger than a set of so many
 abbrev pub is_larger : ℕ → List (List ℕ) → ℕ → ℕ → Bool

@@ -1,7 +1,7 @@
 -- What a tree keeps, and what its calls answer.
-use Rattle.std.specs.Prelude.{◌≡◌, ◌+◌, ◌-◌, ◌<◌, ℕ, List, [], length, map, get_or, Option, Some, None, Result, Ok, Err}
+use Rattle.std.specs.Prelude.{◌≡◌, ◌+◌, ◌-◌, ◌<◌, ℕ, List, [], length, map, filter, get_or, Option, Some, None, Result, Ok, Err}
 use Rattle.rm_sets.specs.Sets.{has, all_below}
-use Rattle.rm_market.specs.Tree.{below, least, children, sets_of, TreeOf}
+use Rattle.rm_market.specs.Tree.{below, least, children, members, sets_of, TreeOf}
 use Rattle.rm_market.specs.declared.TreeFault.{TreeFault}
 use Rattle.rm_market.specs.declared.TreeFault.TheVariants.{NoMemory}
 use Rattle.rm_laminar.specs.Chains.{AreChains, AreGroups}
@@ -31,3 +31,13 @@ Builds first tree (Err fault) = first ≡ Some fault
 pub record AreChildren (t : TreeOf) (lists : List (List ℕ)) : Type 0 where
   pub lengths : length lists ≡ length (sets_of t)
   pub each : (n : ℕ) → n < length (sets_of t) → get_or lists n [] ≡ children (sets_of t) n
+
+-- the hospitals of each node, in the order of the walk
+pub record AreMembers (t : TreeOf) (lists : List (List ℕ)) : Type 0 where
+  pub lengths : length lists ≡ length (sets_of t)
+  pub each : (n : ℕ) → n < length (sets_of t) → get_or lists n [] ≡ members (sets_of t) t.hospitals n
+
+-- of an order of the hospitals, those whose chain has the node, for each of so many nodes
+pub record AreFiltered (nodes : ℕ) (chains : List (List ℕ)) (order : List ℕ) (lists : List (List ℕ)) : Type 0 where
+  pub lengths : length lists ≡ nodes
+  pub each : (n : ℕ) → n < nodes → get_or lists n [] ≡ filter (λ h. has n (get_or chains h [])) order

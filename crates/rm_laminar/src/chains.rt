@@ -5,8 +5,8 @@ ghost use Rattle.std.specs.List.{list_any, prefix_len};
 ghost use Rattle.rm_sets.specs.Sets.{has, IsSet, IsSetBelow, common, minus};
 ghost use Rattle.rm_base.specs.Checks.{first_of};
 ghost use Rattle.rm_market.specs.Board.{crosses};
-ghost use Rattle.rm_market.specs.Tree.{tree_sets, set_of, crossing, group_checks, tree_fault};
-ghost use Rattle.rm_laminar.specs.Chains.{lists_of, AreChains, AreGroups, ArePut, is_larger, Passes, HasChains};
+ghost use Rattle.rm_market.specs.Tree.{put, tree_sets, set_of, crossing, group_checks, tree_fault};
+ghost use Rattle.rm_laminar.specs.Chains.{lists_of, AreChains, AreGroups, AreChanged, is_larger, Passes, HasChains};
 
 use crate::lists::Lists;
 use rm_market::TreeFault;
@@ -210,7 +210,7 @@ fn insert_group(chains: &mut Lists, earlier: &[Vec<u32>], group: &[u32]) -> Resu
     requires chains { AreChains (length chains.old) (lists_of earlier.now) chains.old }
     requires groups { AreGroups (length chains.old) (lists_of earlier.now) }
     requires group { IsSetBelow (length chains.old) group.now }
-    ensures { OnOk result (ArePut (is_larger (length group.now) (tree_sets (length chains.old) (lists_of earlier.now))) (length chains.old + length earlier.now) chains.old chains.new group.now) }
+    ensures { OnOk result (AreChanged (put (is_larger (length group.now) (tree_sets (length chains.old) (lists_of earlier.now))) (length chains.old + length earlier.now)) chains.old chains.new group.now) }
 {
     let hospitals = chains.len() as u32;
     let node = hospitals + earlier.len() as u32;

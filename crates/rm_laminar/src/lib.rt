@@ -3,13 +3,14 @@
 
 ghost use Rattle.std.specs.Prelude.{◌≡◌, ◌+◌, ◌<◌, ◌≤◌, ℕ, List, [], ◌∷◌, ◌++◌, length, map, get_or, slice_index, All, IfOk, fold, max, position, slice_get, ◌==◌};
 ghost use Rattle.rm_sets.specs.Sets.{IsSetBelow};
-ghost use Rattle.rm_market.specs.Tree.{below, tree_fault, sets_of, chain, children, parent, depth};
+ghost use Rattle.rm_market.specs.Tree.{below, tree_fault, sets_of, chain, children, members, parent, depth};
 ghost use Rattle.rm_laminar.specs.Chains.{lists_of, AreChains, AreGroups};
 ghost use Rattle.rm_laminar.specs.Tree.{IsKept, Builds};
 
 use crate::chains::chains_of;
 use crate::children::children_of;
 use crate::lists::Lists;
+use crate::walk::members_of;
 pub use rm_market::TreeFault;
 use std::alloc::{AllocError, Global};
 use std::marker::Model;
@@ -17,6 +18,7 @@ use std::marker::Model;
 mod chains;
 mod children;
 mod lists;
+mod walk;
 
 /// The tree of hospitals and groups: of two nodes one contains the other, or they share no hospital. Node h is the
 /// hospital h alone, and node `hospitals + g` is the group g. Of two equal sets the later declared one is outside.
@@ -25,18 +27,19 @@ pub struct Tree {
     chains: Lists,
     firsts: Vec<u32>,
     children: Lists,
+    members: Lists,
 }
 
 impl Model for Tree {
     ghost use Rattle.std.specs.Prelude.{length};
     ghost use Rattle.rm_market.specs.Tree.{TreeOf};
-    ghost use Rattle.rm_laminar.specs.Tree.{told, IsKept, AreChildren};
+    ghost use Rattle.rm_laminar.specs.Tree.{told, IsKept, AreChildren, AreMembers};
 
     ghost Value = { TreeOf };
 
     ghost view = { λ t. told (length t.firsts.items) t.chains };
 
-    ghost invariant = { λ t. IsKept (told (length t.firsts.items) t.chains) t.chains t.firsts.items × AreChildren (told (length t.firsts.items) t.chains) t.children };
+    ghost invariant = { λ t. IsKept (told (length t.firsts.items) t.chains) t.chains t.firsts.items × AreChildren (told (length t.firsts.items) t.chains) t.children × AreMembers (told (length t.firsts.items) t.chains) t.members };
 }
 
 // The least hospital of each node.
@@ -101,10 +104,14 @@ impl Tree {
         let Ok(children) = children_of(alloc, &chains, groups, &firsts) else {
             return Err(TreeFault::NoMemory);
         };
+        let Ok(members) = members_of(alloc, &chains, groups, &firsts) else {
+            return Err(TreeFault::NoMemory);
+        };
         Ok(Tree {
             chains,
             firsts,
             children,
+            members,
         })
     }
 
@@ -120,6 +127,15 @@ impl Tree {
         ensures { result ≡ self.now.hospitals }
     {
         self.chains.len() as u32
+    }
+
+    /// The hospitals of a node, each once, in the order of the tree's walk, which visits roots, and the children of a
+    /// node, by their least hospital.
+    pub fn members(&self, node: u32) -> &[u32]
+        requires { node < length (sets_of self.now) }
+        ensures { result.now ≡ members (sets_of self.now) self.now.hospitals node }
+    {
+        self.members.list(node)
     }
 
     /// The nodes just inside a node, by their least hospital.

@@ -27,11 +27,32 @@ children_of-requires-clause-firsts c =
     let first = kept-firsts c.args.hospitals (lists_of c.args.groups.now) c.in_ok-chains.chains c.in-Ok.firsts.items (groups-are c.args.hospitals c.args.groups.now c.requires.few_hospitals c.requires.few_groups c.requires.sets) built c.in-Ok.ensures in
     rw (c.deref.ensures.value, built.each_hospital) first.1
 
+pub members_of-requires-clause-chains : goal.members_of-requires-clause-chains
+members_of-requires-clause-chains c =
+    let built = c.in_ok-chains.ensures.1 in
+    rw built.each_hospital built
+
+pub members_of-requires-clause-groups : goal.members_of-requires-clause-groups
+members_of-requires-clause-groups c = rw c.in_ok-chains.ensures.1.each_hospital (groups-are c.args.hospitals c.args.groups.now c.requires.few_hospitals c.requires.few_groups c.requires.sets)
+
+pub members_of-requires-clause-nodes : goal.members_of-requires-clause-nodes
+members_of-requires-clause-nodes c =
+    let built = c.in_ok-chains.ensures.1 in
+    let first = kept-firsts c.args.hospitals (lists_of c.args.groups.now) c.in_ok-chains.chains c.in-Ok.firsts.items (groups-are c.args.hospitals c.args.groups.now c.requires.few_hospitals c.requires.few_groups c.requires.sets) built c.in-Ok.ensures in
+    rw (c.deref-2.ensures.value, built.each_hospital, first.0, lists-length) refl
+
+pub members_of-requires-clause-firsts : goal.members_of-requires-clause-firsts
+members_of-requires-clause-firsts c =
+    let built = c.in_ok-chains.ensures.1 in
+    let first = kept-firsts c.args.hospitals (lists_of c.args.groups.now) c.in_ok-chains.chains c.in-Ok.firsts.items (groups-are c.args.hospitals c.args.groups.now c.requires.few_hospitals c.requires.few_groups c.requires.sets) built c.in-Ok.ensures in
+    rw (c.deref-2.ensures.value, built.each_hospital) first.1
+
 pub invariant_of-result : goal.invariant_of-result
 invariant_of-result c =
     let k = kept c.args.hospitals (lists_of c.args.groups.now) c.in_ok-chains.chains c.in-Ok.firsts.items (groups-are c.args.hospitals c.args.groups.now c.requires.few_hospitals c.requires.few_groups c.requires.sets) c.in_ok-chains.ensures.1 c.in-Ok.ensures in
     let told_children = rw c.in_ok-chains.ensures.1.each_hospital at c.in-Ok-children_of.ensures in
-    (k.1, rw k.0 told_children)
+    let told_members = rw c.in_ok-chains.ensures.1.each_hospital at c.in-Ok-members_of.ensures in
+    (k.1, rw k.0 told_children, rw k.0 told_members)
 
 pub returns : goal.returns
 returns c = (
