@@ -4,3 +4,4 @@ pub mod RankOrder
 pub mod ListedOrders
 pub mod Places
 pub mod RuleOrders
+pub mod BoardNodes

@@ -1,5 +1,5 @@
 -- The doctors' lists of contracts: one contract more, one list more, and all.
-use Rattle.std.proofs.Common.{◌≡◌, ◌∙◌, ◌≢◌, sym, ap, refl, ℕ, zero, suc, ◌+◌, ◌<◌, ◌≤◌, List, [], ◌∷◌, ◌++◌, length, map, take, get_or, set, replicate, filter_map, Option, Some, None, inl, inr, arith, append_assoc, length-set, add-zero}
+use Rattle.std.proofs.Common.{◌≡◌, ◌∙◌, sym, ap, refl, ℕ, zero, suc, ◌+◌, ◌<◌, ◌≤◌, List, [], ◌∷◌, ◌++◌, length, map, take, get_or, set, replicate, filter_map, Option, Some, None, inl, inr, arith, append_assoc, length-set, add-zero}
 use Rattle.std.specs.List.{enumerate_from}
 use Rattle.std.proofs.lemmas.Bool.{cases_lt, cases_eq}
 use Rattle.std.proofs.lemmas.List.{append-nil, take_more, set-set, get_or-set_same, get_or-set_other, get_or-replicate, get_or_past, length-replicate, ext_get_or}
@@ -12,7 +12,7 @@ use Rattle.rm_board.specs.Listed.{AddsList}
 -- ---- one contract more
 
 list-more : (old lists : List (List ℕ)) (d : ℕ) (so more : List ℕ) → d < length old → lists ≡ set old d (get_or old d [] ++ so) →
-  set lists d (get_or lists d [] ++ more) ≡ set old d (get_or old d [] ++ (so ++ more))
+    set lists d (get_or lists d [] ++ more) ≡ set old d (get_or old d [] ++ (so ++ more))
 list-more old lists d so more lt is =
     rw (is, get_or-set_same old d (get_or old d [] ++ so) [] lt, set-set old d (get_or old d [] ++ so) ((get_or old d [] ++ so) ++ more), append_assoc (get_or old d []) so more) refl
 
@@ -58,7 +58,7 @@ none-listed ranks lists b n empty n-is below =
     }
 
 pub one-listed : (ranks lists : List (List ℕ)) (d : ℕ) (old new : ListsTold) → AreListed ranks lists d old → d < length lists →
-  AddsList old d (filter_map (number_of ranks d) (get_or lists d [])) new → AreListed ranks lists (d + 1) new
+    AddsList old d (filter_map (number_of ranks d) (get_or lists d [])) new → AreListed ranks lists (d + 1) new
 one-listed ranks lists d old new so-far lt adds =
     let list = filter_map (number_of ranks d) (get_or lists d []) in
     let was : get_or old.lists d [] ++ list ≡ list = rw (so-far.left d (omega arith)) refl in
@@ -90,7 +90,7 @@ length-enumerated f s (x ∷ xs) = ap suc (length-enumerated f (s + 1) xs)
 pub all-listed : (ranks lists : List (List ℕ)) (d : ℕ) (b : ListsTold) → AreListed ranks lists d b → length lists ≤ d → b.lists ≡ listed_of ranks lists
 all-listed ranks lists d b all end =
     ext_get_or [] b.lists (listed_of ranks lists) (all.many ∙ sym (length-enumerated (λ (e : ℕ × List ℕ). filter_map (number_of ranks e.0) e.1) 0 lists)) (λ k lt.
-      let within : k < length lists = omega (arith, all.many) in
-      let there = enumerated (λ (e : ℕ × List ℕ). filter_map (number_of ranks e.0) e.1) 0 k lists [] within in
-      let e : 0 + k ≡ k = omega arith in
-      all.done k (omega arith) ∙ sym (rw e at there))
+    let within : k < length lists = omega (arith, all.many) in
+    let there = enumerated (λ (e : ℕ × List ℕ). filter_map (number_of ranks e.0) e.1) 0 k lists [] within in
+    let e : 0 + k ≡ k = omega arith in
+    all.done k (omega arith) ∙ sym (rw e at there))

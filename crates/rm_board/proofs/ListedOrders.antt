@@ -1,8 +1,7 @@
 -- A listed order, element by element.
-use Rattle.std.proofs.Common.{Ok, Err, eqb, ◌≡◌, ◌≢◌, ◌∙◌, sym, ap, subst, refl, ℕ, zero, suc, ◌+◌, ◌-◌, ◌<◌, ◌≤◌, List, [], ◌∷◌, ◌++◌, length, map, filter, filter_map, take, drop, get_or, set, replicate, Bool, true, false, not, ◌&&◌, ◌||◌, nat_lt, cond, Option, Some, None, option_map, option_and_then, inl, inr, arith, append_assoc, length-append, length-set, add-zero}
+use Rattle.std.proofs.Common.{Err, ◌≡◌, ◌∙◌, sym, ap, refl, ℕ, zero, suc, ◌+◌, ◌<◌, ◌≤◌, List, [], ◌∷◌, ◌++◌, length, map, filter, filter_map, get_or, set, replicate, Bool, true, false, not, ◌&&◌, nat_lt, cond, Option, Some, None, option_map, option_and_then, inl, inr, arith, length-append, length-set, add-zero}
 use Rattle.std.specs.Bool.{◌==◌}
 use Rattle.std.specs.List.{list_any, position, position_from, enumerate_from, last_or, find}
-use Rattle.std.specs.Option.{option_map_or}
 use Rattle.std.proofs.lemmas.Bool.{cases_lt, cases_eq}
 use Rattle.std.proofs.lemmas.Bool.Decides.{nat_tests}
 use Rattle.std.proofs.lemmas.List.{get_or-replicate, get_or_past, length-replicate, get_or_read, append-nil, get_or-set_same, get_or-set_other, map-append}
@@ -14,7 +13,7 @@ use Rattle.rm_sets.proofs.Sets.{has-append, IsIn-cases, not_both}
 use Rattle.rm_sets.proofs.Members.{not_in_nil, IsIn-append_cases}
 use Rattle.rm_sets.proofs.Once.{once_append, distinct_from_once}
 use Rattle.std.proofs.lemmas.Map.Steps.{length-le_from_distinct_below}
-use Rattle.rm_base.specs.Checks.{check, first_of, checks_of}
+use Rattle.rm_base.specs.Checks.{first_of, checks_of}
 use Rattle.rm_base.specs.declared.ListedPair.{ListedPair}
 use Rattle.rm_market.specs.Board.{pairs_of, hospital_of_number}
 use Rattle.rm_market.specs.Ties.{listed_order, listed_fault, missing, contract_of_pair, is_named_by, is_at_hospital_of, is_ranked_below, last_at_hospital_of, element_checks}
@@ -28,7 +27,7 @@ use Rattle.rm_board.specs.ListedElements.{place_of_number, number_if_any, IsWide
 
 module _ (ranks : List (List ℕ)) (before : List ListedPair) (order named last greatest : List ℕ) (l : IsListing ranks before order named last greatest) where
   pub against : (p : ListedPair) (x : ℕ) → x < length (pairs_of ranks) → contract_of_pair ranks p ≡ Some x → get_or named x 0 ≡ 0 → x + 1 < get_or greatest (hospital_of_number ranks x) 0 →
-    first_of (element_checks ranks before p) ≡ Some (AgainstRank (length order + 1) (get_or last (hospital_of_number ranks x) 0))
+      first_of (element_checks ranks before p) ≡ Some (AgainstRank (length order + 1) (get_or last (hospital_of_number ranks x) 0))
   against p x lt names new less =
       let h = hospital_of_number ranks x in
       let place : position (is_named_by ranks x) before ≡ None = rw new at (l.place x lt) in
@@ -36,12 +35,12 @@ module _ (ranks : List (List ℕ)) (before : List ListedPair) (order named last 
       rw (names, place, test, l.latest x lt, l.long) (go (get_or last h 0) refl)
     where
       go : (n : ℕ) → get_or last (hospital_of_number ranks x) 0 ≡ n →
-        first_of (option_and_then (λ f. Some (AgainstRank (length before + 1) f)) (number_if_any n) ∷ []) ≡ Some (AgainstRank (length before + 1) n)
+          first_of (option_and_then (λ f. Some (AgainstRank (length before + 1) f)) (number_if_any n) ∷ []) ≡ Some (AgainstRank (length before + 1) n)
       go zero is = let none = l.some (hospital_of_number ranks x) is in absurd (omega arith)
       go (suc n) is = refl
 
   pub against-read : (p : ListedPair) (x h f g t n : ℕ) → x < length (pairs_of ranks) → Some x ≡ contract_of_pair ranks p → IsWide ranks named last greatest → h ≡ hospital_of_number ranks x → h < length ranks →
-    f ≡ get_or named x f → f ≡ 0 → g ≡ get_or greatest h g → x + 1 < g → t ≡ get_or last h t → n ≡ length order → first_of (element_checks ranks before p) ≡ Some (AgainstRank (n + 1) t)
+      f ≡ get_or named x f → f ≡ 0 → g ≡ get_or greatest h g → x + 1 < g → t ≡ get_or last h t → n ≡ length order → first_of (element_checks ranks before p) ≡ Some (AgainstRank (n + 1) t)
   against-read p x h f g t n lt names wide h-is within f-is none g-is less t-is n-is =
       let new : get_or named x 0 ≡ 0 = sym (get_or_read named x f (omega (arith, wide.contracts)) f-is 0) ∙ none in
       let above : x + 1 < get_or greatest (hospital_of_number ranks x) 0 = rw (← h-is, ← get_or_read greatest h g (omega (arith, wide.all_hospitals)) g-is 0) less in
@@ -85,8 +84,12 @@ last-push o (x ∷ xs) z = last-push (Some x) xs z
 latest-here : (ranks : List (List ℕ)) (x : ℕ) (before : List ListedPair) (p : ListedPair) → is_at_hospital_of ranks x p ≡ true → last_at_hospital_of ranks x (before ++ p ∷ []) ≡ Some (1 + length before)
 latest-here ranks x before p here =
     let f = λ (e : ℕ × ListedPair). is_at_hospital_of ranks x e.1 in
-    rw (enumerate-push 1 before p, filter-append f (enumerate_from 1 before) ((1 + length before, p) ∷ []), here,
-      map-append (λ (e : ℕ × ListedPair). e.0) (filter f (enumerate_from 1 before)) ((1 + length before, p) ∷ []))
+    rw (
+      enumerate-push 1 before p,
+      filter-append f (enumerate_from 1 before) ((1 + length before, p) ∷ []),
+      here,
+      map-append (λ (e : ℕ × ListedPair). e.0) (filter f (enumerate_from 1 before)) ((1 + length before, p) ∷ []),
+    )
     (last-push None (map (λ (e : ℕ × ListedPair). e.0) (filter f (enumerate_from 1 before))) (1 + length before))
 
 latest-elsewhere : (ranks : List (List ℕ)) (x : ℕ) (before : List ListedPair) (p : ListedPair) → is_at_hospital_of ranks x p ≡ false → last_at_hospital_of ranks x (before ++ p ∷ []) ≡ last_at_hospital_of ranks x before
@@ -112,32 +115,32 @@ module _ (ranks : List (List ℕ)) (before : List ListedPair) (order named last 
   place-more : (n y : ℕ) → n ≡ length order + 1 → get_or named x 0 ≡ 0 → y < length (pairs_of ranks) → position (is_named_by ranks y) (before ++ p ∷ []) ≡ place_of_number (get_or (set named x n) y 0)
   place-more n y n-is new lt-y = elim (cases_eq y x) [
     | inl same ↦
-      let hit : is_named_by ranks x p ≡ true = named-by x ∙ grind (arith, nat_tests) in
-      let was : position (is_named_by ranks x) before ≡ None = rw new at (l.place x lt) in
-      let m : n ≡ suc (length before) = omega (arith, l.long) in
-      rw (same, get_or-set_same named x n 0 within-named, m) (place-some (is_named_by ranks x) before p was hit)
+        let hit : is_named_by ranks x p ≡ true = named-by x ∙ grind (arith, nat_tests) in
+        let was : position (is_named_by ranks x) before ≡ None = rw new at (l.place x lt) in
+        let m : n ≡ suc (length before) = omega (arith, l.long) in
+        rw (same, get_or-set_same named x n 0 within-named, m) (place-some (is_named_by ranks x) before p was hit)
     | inr other ↦
-      let miss : is_named_by ranks y p ≡ false = named-by y ∙ grind (arith, nat_tests, other) in
-      rw (get_or-set_other named x y n 0 other) (place-same (is_named_by ranks y) before p miss ∙ l.place y lt-y)
+        let miss : is_named_by ranks y p ≡ false = named-by y ∙ grind (arith, nat_tests, other) in
+        rw (get_or-set_other named x y n 0 other) (place-same (is_named_by ranks y) before p miss ∙ l.place y lt-y)
   ]
 
   latest-more : (n y : ℕ) → n ≡ length order + 1 → hospital_of_number ranks x < length ranks → y < length (pairs_of ranks) →
-    last_at_hospital_of ranks y (before ++ p ∷ []) ≡ number_if_any (get_or (set last (hospital_of_number ranks x) n) (hospital_of_number ranks y) 0)
+      last_at_hospital_of ranks y (before ++ p ∷ []) ≡ number_if_any (get_or (set last (hospital_of_number ranks x) n) (hospital_of_number ranks y) 0)
   latest-more n y n-is h lt-y = elim (cases_eq (hospital_of_number ranks y) (hospital_of_number ranks x)) [
     | inl same ↦
-      let hit : is_at_hospital_of ranks y p ≡ true = at-hospital y ∙ grind (arith, nat_tests) in
-      let m : n ≡ suc (length before) = omega (arith, l.long) in
-      let e : 1 + length before ≡ suc (length before) = omega arith in
-      let there : number_if_any (get_or (set last (hospital_of_number ranks x) n) (hospital_of_number ranks y) 0) ≡ Some (suc (length before)) =
-            rw (same, get_or-set_same last (hospital_of_number ranks x) n 0 (omega (arith, wide.hospitals)), m) refl in
-      latest-here ranks y before p hit ∙ ap Some e ∙ sym there
+        let hit : is_at_hospital_of ranks y p ≡ true = at-hospital y ∙ grind (arith, nat_tests) in
+        let m : n ≡ suc (length before) = omega (arith, l.long) in
+        let e : 1 + length before ≡ suc (length before) = omega arith in
+        let there : number_if_any (get_or (set last (hospital_of_number ranks x) n) (hospital_of_number ranks y) 0) ≡ Some (suc (length before)) =
+        rw (same, get_or-set_same last (hospital_of_number ranks x) n 0 (omega (arith, wide.hospitals)), m) refl in
+        latest-here ranks y before p hit ∙ ap Some e ∙ sym there
     | inr other ↦
-      let miss : is_at_hospital_of ranks y p ≡ false = at-hospital y ∙ grind (arith, nat_tests, other) in
-      rw (get_or-set_other last (hospital_of_number ranks x) (hospital_of_number ranks y) n 0 other) (latest-elsewhere ranks y before p miss ∙ l.latest y lt-y)
+        let miss : is_at_hospital_of ranks y p ≡ false = at-hospital y ∙ grind (arith, nat_tests, other) in
+        rw (get_or-set_other last (hospital_of_number ranks x) (hospital_of_number ranks y) n 0 other) (latest-elsewhere ranks y before p miss ∙ l.latest y lt-y)
   ]
 
   below-more : (y : ℕ) → get_or greatest (hospital_of_number ranks x) 0 ≤ x + 1 → hospital_of_number ranks x < length ranks → y < length (pairs_of ranks) →
-    list_any (is_ranked_below ranks y) (before ++ p ∷ []) ≡ nat_lt (y + 1) (get_or (set greatest (hospital_of_number ranks x) (x + 1)) (hospital_of_number ranks y) 0)
+      list_any (is_ranked_below ranks y) (before ++ p ∷ []) ≡ nat_lt (y + 1) (get_or (set greatest (hospital_of_number ranks x) (x + 1)) (hospital_of_number ranks y) 0)
   below-more y above h lt-y =
       list_any-append (is_ranked_below ranks y) before (p ∷ []) ∙ rw (ranked-below y, l.below y lt-y) (elim (cases_eq (hospital_of_number ranks y) (hospital_of_number ranks x)) [
         | inl same ↦ rw (same, get_or-set_same greatest (hospital_of_number ranks x) (x + 1) 0 (omega (arith, wide.all_hospitals))) (grind (arith, nat_tests))
@@ -172,7 +175,7 @@ module _ (ranks : List (List ℕ)) (before : List ListedPair) (order named last 
   ]
 
   pub listing-more : (n : ℕ) → n ≡ length order + 1 → get_or named x 0 ≡ 0 → get_or greatest (hospital_of_number ranks x) 0 ≤ x + 1 → hospital_of_number ranks x < length ranks →
-    IsListing ranks (before ++ p ∷ []) (order ++ x ∷ []) (set named x n) (set last (hospital_of_number ranks x) n) (set greatest (hospital_of_number ranks x) (x + 1))
+      IsListing ranks (before ++ p ∷ []) (order ++ x ∷ []) (set named x n) (set last (hospital_of_number ranks x) n) (set greatest (hospital_of_number ranks x) (x + 1))
   listing-more n n-is new above h =
       let some : 0 < n = omega arith in
       record {
@@ -231,7 +234,7 @@ pub record ReadAll (ranks : List (List ℕ)) (pairs : List ListedPair) (order na
 
 -- the first pair whose contract isn't in the order
 one-on : (s : ℕ) (p : ℕ × ℕ) (ps : List (ℕ × ℕ)) (o : Option ℕ) →
-  option_map {U = ℕ × (ℕ × ℕ)} (λ x. (s + 1 + x, get_or ps x (0, 0))) o ≡ option_map {U = ℕ × (ℕ × ℕ)} (λ x. (s + x, get_or (p ∷ ps) x (0, 0))) (option_map (λ i. 1 + i) o)
+    option_map {U = ℕ × (ℕ × ℕ)} (λ x. (s + 1 + x, get_or ps x (0, 0))) o ≡ option_map {U = ℕ × (ℕ × ℕ)} (λ x. (s + x, get_or (p ∷ ps) x (0, 0))) (option_map (λ i. 1 + i) o)
 one-on s p ps None = refl
 one-on s p ps (Some i) =
     let e : 1 + i ≡ suc i = omega arith in
@@ -239,7 +242,7 @@ one-on s p ps (Some i) =
     rw (e, f) refl
 
 missing-from : (order named : List ℕ) (s : ℕ) (ps : List (ℕ × ℕ)) (ns : List ℕ) → length ns ≡ length ps → ((k : ℕ) → k < length ps → has (s + k) order ≡ nat_lt 0 (get_or ns k 0)) →
-  find (λ e. not (has e.0 order)) (enumerate_from s ps) ≡ option_map {U = ℕ × (ℕ × ℕ)} (λ x. (s + x, get_or ps x (0, 0))) (position_from (λ n. n == 0) 0 ns)
+    find (λ e. not (has e.0 order)) (enumerate_from s ps) ≡ option_map {U = ℕ × (ℕ × ℕ)} (λ x. (s + x, get_or ps x (0, 0))) (position_from (λ n. n == 0) 0 ns)
 missing-from order named s [] [] as_long in_order = refl
 missing-from order named s [] (n ∷ ns) as_long in_order = absurd (omega arith)
 missing-from order named s (p ∷ ps) [] as_long in_order = absurd (omega arith)
@@ -256,14 +259,14 @@ missing-from order named s (p ∷ ps) (suc n ∷ ns) as_long in_order =
     rw (here, not_zero, rest, shifted (λ m. m == 0) 1 0 ns) (one-on s p ps (position_from (λ m. m == 0) 0 ns))
 
 missing-is : (ranks : List (List ℕ)) (pairs : List ListedPair) (order named : List ℕ) → ReadAll ranks pairs order named →
-  missing ranks pairs ≡ option_map (λ (e : ℕ × (ℕ × ℕ)). Missing e.1.0 e.1.1) (option_map {U = ℕ × (ℕ × ℕ)} (λ x. (0 + x, get_or (pairs_of ranks) x (0, 0))) (position (λ n. n == 0) named))
+    missing ranks pairs ≡ option_map (λ (e : ℕ × (ℕ × ℕ)). Missing e.1.0 e.1.1) (option_map {U = ℕ × (ℕ × ℕ)} (λ x. (0 + x, get_or (pairs_of ranks) x (0, 0))) (position (λ n. n == 0) named))
 unfolding listed_order
 missing-is ranks pairs order named all =
     let from = missing-from order named 0 (pairs_of ranks) named all.wide (λ k lt. let e : 0 + k ≡ k = omega arith in rw e (all.in_order k lt)) in
     rw (← all.contracts, from, position_from-zero (λ n. n == 0) named) refl
 
 pub all-read-is : (ranks : List (List ℕ)) (pairs : List ListedPair) (order named last greatest : List ℕ) →
-  (first_of (checks_of (element_checks ranks) pairs) ≡ None) × IsListing ranks pairs order named last greatest × IsWide ranks named last greatest → ReadAll ranks pairs order named
+    (first_of (checks_of (element_checks ranks) pairs) ≡ None) × IsListing ranks pairs order named last greatest × IsWide ranks named last greatest → ReadAll ranks pairs order named
 all-read-is ranks pairs order named last greatest (checked, listing, wide) =
     record { checked = checked; contracts = listing.contracts; wide = wide.contracts; in_order = listing.in_order }
 
@@ -273,7 +276,7 @@ none-missing ranks pairs order named all none =
     (first-none (checks_of (element_checks ranks) pairs) (missing ranks pairs ∷ []) all.checked ∙ rw (missing-is ranks pairs order named all, ← none) refl, all.contracts)
 
 pub one-missing : (ranks : List (List ℕ)) (pairs : List ListedPair) (order named : List ℕ) (x d h : ℕ) → ReadAll ranks pairs order named → Some x ≡ position (λ n. n == 0) named →
-  d ≡ doctor_of_number ranks x → h ≡ hospital_of_number ranks x → listed_fault ranks pairs ≡ Some (Missing d h)
+    d ≡ doctor_of_number ranks x → h ≡ hospital_of_number ranks x → listed_fault ranks pairs ≡ Some (Missing d h)
 unfolding listed_fault
 one-missing ranks pairs order named x d h all some d-is h-is =
     first-none (checks_of (element_checks ranks) pairs) (missing ranks pairs ∷ []) all.checked ∙ rw (missing-is ranks pairs order named all, ← some, d-is, h-is) refl
@@ -294,7 +297,7 @@ pub record AreRead (ranks : List (List ℕ)) (pairs : List ListedPair) (i : ℕ)
   pub wide : IsWide ranks named last greatest
 
 pub none-read : (ranks : List (List ℕ)) (pairs : List ListedPair) (order named last greatest : List ℕ) → order ≡ [] → named ≡ replicate (length (pairs_of ranks)) 0 → last ≡ replicate (length ranks) 0 → greatest ≡ replicate (length ranks) 0 →
-  AreRead ranks pairs 0 order named last greatest
+    AreRead ranks pairs 0 order named last greatest
 none-read ranks pairs order named last greatest o n l g =
     rw (o, n, l, g) (record {
       before = [];
@@ -309,9 +312,9 @@ none-read ranks pairs order named last greatest o n l g =
 
 module _ (ranks : List (List ℕ)) (pairs : List ListedPair) (i : ℕ) (order named last greatest : List ℕ) (r : AreRead ranks pairs i order named last greatest) where
   pub one-read : (p d : ListedPair) (x : ℕ) (order' named' last' greatest' : List ℕ) → i < length pairs → p ≡ get_or pairs i d → first_of (element_checks ranks r.before p) ≡ None → contract_of_pair ranks p ≡ Some x → x < length (pairs_of ranks) →
-    get_or named x 0 ≡ 0 → get_or greatest (hospital_of_number ranks x) 0 ≤ x + 1 →
-    order' ≡ order ++ x ∷ [] → named' ≡ set named x (length order + 1) → last' ≡ set last (hospital_of_number ranks x) (length order + 1) → greatest' ≡ set greatest (hospital_of_number ranks x) (x + 1) →
-    AreRead ranks pairs (i + 1) order' named' last' greatest'
+      get_or named x 0 ≡ 0 → get_or greatest (hospital_of_number ranks x) 0 ≤ x + 1 →
+      order' ≡ order ++ x ∷ [] → named' ≡ set named x (length order + 1) → last' ≡ set last (hospital_of_number ranks x) (length order + 1) → greatest' ≡ set greatest (hospital_of_number ranks x) (x + 1) →
+      AreRead ranks pairs (i + 1) order' named' last' greatest'
   one-read p d x order' named' last' greatest' lt is fine names lt-x new above o n l g =
       let h : hospital_of_number ranks x < length ranks = omega (arith, (pair_in 0 ranks x lt-x).1) in
       rw (o, n, l, g) (record {
@@ -334,7 +337,7 @@ module _ (ranks : List (List ℕ)) (pairs : List ListedPair) (i : ℕ) (order na
 
 -- a fault of an element is that of all elements
 pub fault-on : (first all : Option BoardFault) (contract : Option ℕ) (ranks : List (List ℕ)) (pairs : List ListedPair) (e : BoardFault) → ((f : BoardFault) → first ≡ Some f → all ≡ Some f) →
-  ReadsElement first contract (Err e) → ReadsElements all ranks pairs (Err e)
+    ReadsElement first contract (Err e) → ReadsElements all ranks pairs (Err e)
 fault-on first all contract ranks pairs (Unknown k) on h = on (Unknown k) h
 fault-on first all contract ranks pairs (Repeated k f) on h = on (Repeated k f) h
 fault-on first all contract ranks pairs (AgainstRank k f) on h = on (AgainstRank k f) h

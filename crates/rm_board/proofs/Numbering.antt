@@ -1,5 +1,5 @@
 -- The numbers of contracts: one rank list after the other, and where a contract of one hospital stands.
-use Rattle.std.proofs.Common.{inl, inr, ◌≡◌, ◌∙◌, sym, ap, subst, refl, ℕ, zero, suc, ◌+◌, ◌-◌, ◌<◌, ◌≤◌, List, [], ◌∷◌, ◌++◌, length, map, take, drop, get_or, replicate, Bool, true, false, ◌&&◌, cond, Option, Some, None, option_map, arith, append_assoc, add-zero, length-append, take-append-drop}
+use Rattle.std.proofs.Common.{inl, inr, ◌≡◌, ◌∙◌, sym, ap, refl, ℕ, zero, suc, ◌+◌, ◌-◌, ◌<◌, ◌≤◌, List, [], ◌∷◌, ◌++◌, length, map, take, drop, get_or, replicate, Bool, true, false, ◌&&◌, cond, Some, None, option_map, arith, append_assoc, add-zero, length-append, take-append-drop}
 use Rattle.std.specs.Bool.{◌==◌}
 use Rattle.std.specs.List.{sum_by, position, position_from, AllByRecursion}
 use Rattle.std.proofs.lemmas.Bool.{cases_lt}
@@ -46,7 +46,7 @@ doctors-more ranks h lt =
     rw (pairs-more ranks h lt, map-append (λ (p : ℕ × ℕ). p.0) (pairs_of (take h ranks)) (own h (get_or ranks h [])), doctors-own h (get_or ranks h [])) refl
 
 pub hospitals-more : (ranks : List (List ℕ)) (h : ℕ) → h < length ranks →
-  map (λ p. p.1) (pairs_of (take (h + 1) ranks)) ≡ map (λ p. p.1) (pairs_of (take h ranks)) ++ replicate (length (get_or ranks h [])) h
+    map (λ p. p.1) (pairs_of (take (h + 1) ranks)) ≡ map (λ p. p.1) (pairs_of (take h ranks)) ++ replicate (length (get_or ranks h [])) h
 hospitals-more ranks h lt =
     rw (pairs-more ranks h lt, map-append (λ (p : ℕ × ℕ). p.1) (pairs_of (take h ranks)) (own h (get_or ranks h [])), hospitals-own h (get_or ranks h [])) refl
 
@@ -92,14 +92,14 @@ nowhere d g s k (r ∷ ranks) lt =
     past (is_pair d g) k (own s r) (pairs_from (s + 1) ranks) (not-own d g s r (grind (arith, nat_tests))) ∙ nowhere d g (s + 1) (k + length (own s r)) ranks (omega arith)
 
 number-from : (d h s k n g : ℕ) (ranks : List (List ℕ)) → h < length ranks → g ≡ s + h → n ≡ k + length (pairs_from s (take h ranks)) →
-  position_from (is_pair d g) k (pairs_from s ranks) ≡ option_map (λ i. n + i) (position_from (λ x. x == d) 0 (get_or ranks h []))
+    position_from (is_pair d g) k (pairs_from s ranks) ≡ option_map (λ i. n + i) (position_from (λ x. x == d) 0 (get_or ranks h []))
 number-from d h s k n g [] lt g-is n-is = absurd (omega arith)
 number-from d zero s k n g (r ∷ ranks) lt g-is n-is =
     let e : g ≡ s = omega arith in
     let f : n ≡ k = omega arith in
     let z : k + 0 ≡ k = omega arith in
     rw (e, f, none-after (is_pair d s) k (own s r) (pairs_from (s + 1) ranks) (λ m. nowhere d s (s + 1) m ranks (omega arith)), own-place d s k r)
-      (rw z at (shifted (λ x. x == d) k 0 r))
+    (rw z at (shifted (λ x. x == d) k 0 r))
 number-from d (suc h) s k n g (r ∷ ranks) lt g-is n-is =
     past (is_pair d g) k (own s r) (pairs_from (s + 1) ranks) (not-own d g s r (grind (arith, nat_tests)))
     ∙ number-from d h (s + 1) (k + length (own s r)) n g ranks (omega arith) (omega arith) (omega (arith, length-append (own s r) (pairs_from (s + 1) (take h ranks))))
@@ -152,7 +152,7 @@ module _ (ranks : List (List ℕ)) (h : ℕ) (doctors hospitals starts : List �
   ]
 
   pub numbered-more : (doctors' hospitals' starts' : List ℕ) (n m s : ℕ) → h < length ranks → doctors' ≡ doctors ++ get_or ranks h [] → n ≡ length doctors' → m ≡ length hospitals →
-    hospitals' ≡ take n hospitals ++ replicate (n - m) h → s ≡ length doctors → starts' ≡ starts ++ s ∷ [] → AreNumbered ranks (h + 1) doctors' hospitals' starts'
+      hospitals' ≡ take n hospitals ++ replicate (n - m) h → s ≡ length doctors → starts' ≡ starts ++ s ∷ [] → AreNumbered ranks (h + 1) doctors' hospitals' starts'
   numbered-more doctors' hospitals' starts' n m s lt more n-is m-is wide s-is begun =
       let d : doctors' ≡ owners_of_ranks (take (h + 1) ranks) = rw (more, done.doctor) (sym (doctors-more ranks h lt)) in
       let long : n ≡ length doctors + length (get_or ranks h []) = omega (arith, n-is, ap length more, length-append doctors (get_or ranks h [])) in

@@ -1,8 +1,8 @@
 -- The places of contracts in a tie order.
-use Rattle.std.proofs.Common.{eqb, ◌≡◌, ◌≢◌, ◌∙◌, sym, ap, refl, ℕ, zero, suc, ◌+◌, ◌<◌, ◌≤◌, List, [], ◌∷◌, length, get_or, set, replicate, true, false, Some, inl, inr, arith, length-set, zero-add}
+use Rattle.std.proofs.Common.{◌≡◌, ◌≢◌, ◌∙◌, sym, ap, refl, ℕ, zero, suc, ◌+◌, ◌<◌, ◌≤◌, List, [], ◌∷◌, length, get_or, set, replicate, true, false, Some, inl, inr, arith, length-set}
 use Rattle.std.specs.Bool.{◌==◌}
 use Rattle.std.specs.List.{IsDistinct, position, position_from}
-use Rattle.std.proofs.lemmas.Bool.{cases_lt, cases_eq}
+use Rattle.std.proofs.lemmas.Bool.{cases_lt}
 use Rattle.std.proofs.lemmas.Bool.Decides.{nat_tests, Decides-eqb}
 use Rattle.std.proofs.lemmas.List.{get_or-set_same, get_or-set_other, length-replicate}
 use Rattle.std.proofs.lemmas.List.Elements.{All-from_recursion}
@@ -45,12 +45,12 @@ module _ (ranks : List (List ℕ)) (order : List ℕ) (ties : IsTieOrder ranks o
         wide = length-set places y k ∙ so-far.wide;
         known = λ p le. elim (cases_lt p k) [
           | inl before ↦
-            let apart : get_or order p 0 ≢ get_or order k 0 = AllPairs-from_IsDistinct Decides-eqb order ties.once p k 0 before lt in
-            let other : get_or order p 0 ≢ y = λ same. apart (same ∙ y-is) in
-            get_or-set_other places y (get_or order p 0) k 0 other ∙ so-far.known p before
+              let apart : get_or order p 0 ≢ get_or order k 0 = AllPairs-from_IsDistinct Decides-eqb order ties.once p k 0 before lt in
+              let other : get_or order p 0 ≢ y = λ same. apart (same ∙ y-is) in
+              get_or-set_other places y (get_or order p 0) k 0 other ∙ so-far.known p before
           | inr here ↦
-            let e : p ≡ k = omega arith in
-            rw (e, ← y-is) (get_or-set_same places y k 0 within)
+              let e : p ≡ k = omega arith in
+              rw (e, ← y-is) (get_or-set_same places y k 0 within)
         ];
       }
 

@@ -1,5 +1,5 @@
 -- The order of each rule is a tie order.
-use Rattle.std.proofs.Common.{◌≡◌, List, ℕ, None, Some, Ok, Err, Result, Vec, Bor, refl, sym}
+use Rattle.std.proofs.Common.{◌≡◌, List, ℕ, Ok, Err, Result, Vec, Bor, refl}
 use Rattle.std.specs.declared.alloc.Global.{Global}
 use Rattle.rm_base.specs.declared.ListedPair.{ListedPair}
 use Rattle.rm_market.specs.Ties.{by_hospital, by_rank}

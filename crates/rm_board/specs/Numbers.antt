@@ -1,6 +1,6 @@
 -- The numbering of the contracts of rank lists, and the doctors' listed contracts.
 use Rattle.std.specs.Prelude.{◌≡◌, ℕ, ◌<◌, List, map, filter_map, length, take, get_or, slice_index_or}
-use Rattle.std.specs.List.{enumerate_from, sum_by}
+use Rattle.std.specs.List.{enumerate_from}
 use Rattle.rm_market.specs.Board.{pairs_of, number_of}
 
 abbrev pub doctor_of_number : List (List ℕ) → ℕ → ℕ

@@ -4,12 +4,14 @@
 ghost use Rattle.std.specs.Prelude.{◌≡◌, ◌≤◌, length, IfOk};
 ghost use Rattle.std.specs.List.{sum_by};
 
+mod board;
 mod contracts;
 mod listing;
 mod orders;
 mod ties;
 mod wishes;
 
+pub use board::Board;
 pub use contracts::{Contracts, NoMemory};
 pub use rm_market::BoardFault;
 pub use ties::{TieRule, tie_order};

@@ -45,7 +45,8 @@ pub fn tie_order(
 /// The place of each contract in a tie order, counted from 0.
 pub fn places_in(alloc: Global, contracts: &Contracts, order: &[u32]) -> Result<Vec<u32>, NoMemory>
     requires { IsTieOrder contracts.now order.now }
-    ensures { IfOk result (λ places. (x : ℕ) → x < length (pairs_of contracts.now) → position (λ y. y == x) order.now ≡ Some (slice_index places.items x)) }
+    ensures wide { IfOk result (λ places. length places.items ≡ length (pairs_of contracts.now)) }
+    ensures places { IfOk result (λ places. (x : ℕ) → x < length (pairs_of contracts.now) → position (λ y. y == x) order.now ≡ Some (slice_index places.items x)) }
 {
     let mut places = vec![in alloc; 0; contracts.count() as usize]?;
     for place in 0..order.len() {

@@ -1,4 +1,3 @@
-use Rattle.std.proofs.Common.{sym}
 use Rattle.rm_market.specs.Board.{number_of}
 use Rattle.rm_board.proofs.ListedContracts.{one-added, some-more, none-more}
 use Rattle.rm_board.proofs.wishes.add_list.Goals as goal

@@ -1,6 +1,5 @@
-use Rattle.std.proofs.Common.{◌≡◌, ◌∙◌, ◌<◌, length, take, sym, arith}
+use Rattle.std.proofs.Common.{◌∙◌, sym, arith}
 use Rattle.std.proofs.lemmas.List.{get_or_read}
-use Rattle.rm_market.specs.Board.{pairs_of}
 use Rattle.rm_board.proofs.Numbering.{number-fits, find-some, find-none}
 use Rattle.rm_board.proofs.contracts.Contracts.find.Goals as goal
 

@@ -1,0 +1,27 @@
+-- The board of rank lists, a tree and the steps of its nodes.
+use Rattle.std.specs.Prelude.{◌≡◌, ◌==◌, ℕ, ◌<◌, List, [], ℤ, length, drop, get_or, position, Some, None, Result, Ok, Err}
+use Rattle.rm_market.specs.Board.{Board, IsTieOrder, pairs_of}
+use Rattle.rm_market.specs.Tree.{TreeOf, sets_of}
+use Rattle.rm_market.specs.declared.BoardFault.{BoardFault}
+use Rattle.rm_market.specs.declared.BoardFault.TheVariants as fault
+use Rattle.rm_board_laws.specs.HospitalBoards.{hospital_board, group_nodes}
+use Rattle.rm_board.specs.Rules.{order_of, fault_of}
+use Rattle.rm_board.specs.declared.ties.TieRule.{TieRule}
+
+-- the board whose nodes are those of the tree, each with its steps
+abbrev pub board_of : List (List ℕ) → TreeOf → List (List ℤ) → List ℕ → Board
+board_of ranks tree steps ties = hospital_board ranks (λ h. get_or steps h []) (group_nodes tree.groups (drop tree.hospitals steps)) ties
+
+-- one rank list for each hospital, steps for each node, a tie order and the place of each contract there
+pub record IsKept (ranks : List (List ℕ)) (tree : TreeOf) (steps : List (List ℤ)) (ties places : List ℕ) : Type 0 where
+  pub hospitals : length ranks ≡ tree.hospitals
+  pub nodes : length steps ≡ length (sets_of tree)
+  pub order : IsTieOrder ranks ties
+  pub wide : length places ≡ length (pairs_of ranks)
+  pub place : (x : ℕ) → x < length (pairs_of ranks) → position (λ y. y == x) ties ≡ Some (get_or places x 0)
+
+-- the board with ties by the rule, or the first fault of the rule
+abbrev pub Builds : List (List ℕ) → TreeOf → List (List ℤ) → TieRule → Result Board BoardFault → Type 0
+Builds ranks tree steps rule (Ok board) = (fault_of ranks rule ≡ None) × (board ≡ board_of ranks tree steps (order_of ranks rule)) × IsTieOrder ranks board.ties
+Builds ranks tree steps rule (Err fault.NoMemory) = Unit {0}
+Builds ranks tree steps rule (Err e) = fault_of ranks rule ≡ Some e

@@ -1,0 +1,144 @@
+// The board of a market.
+
+ghost use Rattle.std.specs.Prelude.{◌≡◌, ◌<◌, ◌==◌, length, position, Some};
+ghost use Rattle.std.specs.List.{sum_by};
+ghost use Rattle.rm_market.specs.Board.{contract_count, contract_of, doctor_of, hospital_of, leaf_of, node_at, owners_of, sets_of as sets_of_board};
+ghost use Rattle.rm_market.specs.Tree.{sets_of};
+ghost use Rattle.rm_board.specs.Boards.{Builds};
+ghost use Rattle.rm_board.specs.Rules.{AreKnown};
+
+use crate::contracts::Contracts;
+use crate::ties::{TieRule, places_in, tie_order};
+use rm_laminar::Tree;
+use rm_market::BoardFault;
+use rm_ranks::Lists;
+use rm_steps::Steps;
+use std::alloc::Global;
+use std::marker::Model;
+
+/// The board of a market: its contracts, the tree of its nodes with the steps of each, and the tie order. Contracts and nodes
+/// count from 0; node h is hospital h, and the groups follow.
+#[derive(Drop)]
+pub struct Board {
+    contracts: Contracts,
+    tree: Tree,
+    steps: Vec<Steps>,
+    order: Vec<u32>,
+    places: Vec<u32>,
+}
+
+impl Model for Board {
+    ghost use Rattle.rm_market.specs.Board.{Board as MarketBoard};
+    ghost use Rattle.rm_board.specs.Boards.{board_of, IsKept};
+
+    ghost Value = { MarketBoard };
+
+    ghost view = { λ b. board_of b.contracts b.tree b.steps.items b.order.items };
+
+    ghost invariant = { λ b. IsKept b.contracts b.tree b.steps.items b.order.items b.places.items };
+}
+
+impl Board {
+    /// The board of these rank lists, one for each hospital of the tree, with one list of steps for each node. The rank lists
+    /// together hold fewer than 4,000,000,000 doctors. Only a listed tie order has faults, of which the first decides: elements
+    /// count from 1, and `Missing` has the doctor and the hospital.
+    pub fn build(
+        alloc: Global,
+        ranks: &Lists,
+        tree: Tree,
+        steps: Vec<Steps>,
+        ties: TieRule<'_>,
+    ) -> Result<Board, BoardFault>
+        requires hospitals { length ranks.now ≡ tree.hospitals }
+        requires steps { length steps.items ≡ length (sets_of tree) }
+        requires few { sum_by length ranks.now < 4_000_000_000 }
+        requires known { AreKnown (length ranks.now) ties }
+        ensures { Builds ranks.now tree steps.items ties.entry result }
+    {
+        let Ok(contracts) = Contracts::build(alloc, ranks) else {
+            return Err(BoardFault::NoMemory);
+        };
+        let order = tie_order(alloc, &contracts, ties)?;
+        let Ok(places) = places_in(alloc, &contracts, &order) else {
+            return Err(BoardFault::NoMemory);
+        };
+        Ok(Board {
+            contracts,
+            tree,
+            steps,
+            order,
+            places,
+        })
+    }
+
+    /// How many contracts there are.
+    pub fn contracts(&self) -> u32
+        ensures { result ≡ contract_count self.now }
+    {
+        self.contracts.count()
+    }
+
+    /// The doctor of contract x.
+    pub fn doctor(&self, x: u32) -> u32
+        requires { x < contract_count self.now }
+        ensures { result ≡ doctor_of self.now x }
+    {
+        self.contracts.doctor(x)
+    }
+
+    /// The hospital of contract x.
+    pub fn hospital(&self, x: u32) -> u32
+        requires { x < contract_count self.now }
+        ensures hospital { result ≡ hospital_of self.now x }
+        ensures below { result < length self.now.ranks }
+    {
+        self.contracts.hospital(x)
+    }
+
+    /// The doctor of each contract.
+    pub fn owners(&self) -> &[u32]
+        ensures { result.now ≡ owners_of self.now }
+    {
+        self.contracts.owners()
+    }
+
+    /// The innermost node of contract x, by which it is counted: the node of its hospital.
+    pub fn leaf(&self, x: u32) -> u32
+        requires { x < contract_count self.now }
+        ensures { result ≡ leaf_of self.now x }
+    {
+        self.contracts.hospital(x)
+    }
+
+    /// The place of contract x in the tie order, counted from 0.
+    pub fn tie(&self, x: u32) -> u32
+        requires { x < contract_count self.now }
+        ensures { position (λ y. y == x) self.now.ties ≡ Some result }
+    {
+        self.places[x as usize]
+    }
+
+    /// The contract of doctor d and hospital h; None exactly where h doesn't rank d.
+    pub fn find(&self, d: u32, h: u32) -> Option<u32>
+        requires { h < length self.now.ranks }
+        ensures { result ≡ contract_of self.now d h }
+    {
+        self.contracts.find(d, h)
+    }
+
+    /// The tree of the nodes.
+    pub fn tree(&self) -> &Tree
+        ensures hospitals { result.now.hospitals ≡ length self.now.ranks }
+        ensures sets { sets_of result.now ≡ sets_of_board self.now }
+    {
+        &self.tree
+    }
+
+    /// The steps of a node.
+    pub fn steps(&self, node: u32) -> &Steps
+        requires { node < length self.now.nodes }
+        ensures { result.now ≡ (node_at self.now node).steps }
+    {
+        &self.steps[node as usize]
+    }
+}
