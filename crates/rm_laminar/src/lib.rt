@@ -173,3 +173,6 @@ impl Tree {
         depth_of(&self.chains)
     }
 }
+
+#[cfg(test)]
+mod tests;
