@@ -1,0 +1,9 @@
+mod GroupRows
+mod HospitalRows
+pub mod OnLiterals
+pub mod DocumentLemmas
+mod ElementLemmas
+mod EntryLemmas
+mod SetLemmas
+mod ValueLemmas
+mod Policies

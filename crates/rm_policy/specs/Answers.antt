@@ -1,0 +1,71 @@
+-- What reading values and entries answers.
+use Rattle.std.specs.Prelude.{◌≡◌, ℕ, true, false, List, map, option_map, Option, Some, None, Result, Ok, Err, Vec}
+use Rattle.std.specs.Borrow.{Bor}
+use Rattle.std.specs.declared.alloc.Global.{Global}
+use Rattle.toml.specs.Data.{Data}
+use Rattle.toml.specs.View.{view}
+use Rattle.toml.specs.declared.value.Value.{Value}
+use Rattle.rm_base.specs.Checks.{first_of}
+use Rattle.rm_base.specs.Reading.{Stops}
+use Rattle.rm_base.specs.Text.{Text}
+use Rattle.rm_base.specs.declared.ReadFault.{ReadFault}
+use Rattle.rm_base.specs.declared.Refusal.{Refusal}
+use Rattle.rm_policy.specs.Values.{elements_of, ties, pairs}
+use Rattle.rm_policy.specs.Entries.{value_at, is_present, is_bad, read_at, list_at}
+use Rattle.rm_policy.specs.Top.{top_checks, kind_in, ties_in, prefecture_entries, group_entries, hospital_entries}
+use Rattle.rm_policy.specs.declared.Ties.{Ties}
+use Rattle.rm_policy.specs.declared.entries.Found.{Found}
+use Rattle.rm_policy.specs.declared.entries.Found.TheVariants as found
+use Rattle.rm_policy.specs.declared.keys.Key.{Key}
+use Rattle.rm_policy.specs.declared.keys.Key.TheVariants as key
+use Rattle.rm_policy.specs.declared.top.Top.{Top}
+use Rattle.rm_policy.specs.declared.values.NamedPair.{NamedPair}
+use Rattle.rm_policy.specs.declared.values.Shape.{Shape}
+
+abbrev pub ReadsPair : Option (Text × Text) → Option NamedPair → Type 0
+ReadsPair p (Some q) = p ≡ Some (q.doctor.now, q.hospital.now)
+ReadsPair p None = p ≡ None
+
+-- what stands at a key that may be absent, and is to be an array whose elements have a shape
+abbrev pub FindsArray : Shape → Key → Data → Found → Type 0
+FindsArray s k d found.Absent = value_at k d ≡ None
+FindsArray s k d found.Bad = (is_present k d ≡ true) × (read_at (elements_of s) k d ≡ None)
+FindsArray s k d (found.Good values) = (is_present k d ≡ true) × (read_at (elements_of s) k d ≡ Some (map view values.now))
+
+-- what passes a check, as a list of data, or the refusal
+abbrev pub ReadsList : Option Refusal → List Data → Result (Bor (List Value)) Refusal → Type 0
+ReadsList check all (Ok values) = (check ≡ None) × (map view values.now ≡ all)
+ReadsList check all (Err refusal) = check ≡ Some refusal
+
+-- the data of a list of values that may be absent
+abbrev pub data_of : Option (Bor (List Value)) → Option (List Data)
+data_of values = option_map (λ s. map view s.now) values
+
+-- what passes a check, as a list of data that may be absent, or the refusal
+abbrev pub ReadsOptional : Option Refusal → Option (List Data) → Result (Option (Bor (List Value))) Refusal → Type 0
+ReadsOptional check all (Ok values) = (check ≡ None) × (data_of values ≡ all)
+ReadsOptional check all (Err refusal) = check ≡ Some refusal
+
+-- what passes its checks, as a list, or the fault
+abbrev pub ReadsItems : {X : Type 0} → Option Refusal → List X → Result (Vec X Global) ReadFault → Type 0
+ReadsItems first all (Ok told) = (first ≡ None) × (told.items ≡ all)
+ReadsItems first all (Err e) = Stops first e
+
+abbrev pub ReadsNumbers : Option Refusal → List ℕ → Result (Vec ℕ Global) ReadFault → Type 0
+ReadsNumbers first all r = ReadsItems first all r
+
+-- the tie order, unless its value is bad
+abbrev pub ReadsTies : Data → Option Ties → Type 0
+ReadsTies d (Some t) = (is_bad ties key.Ties d ≡ false) × (t ≡ ties_in d)
+ReadsTies d None = is_bad ties key.Ties d ≡ true
+
+abbrev pub ReadsTop : Data → Result Top Refusal → Type 0
+ReadsTop d (Ok top) =
+    (first_of (top_checks d) ≡ None)
+    × (top.kind ≡ kind_in d)
+    × (top.ties ≡ ties_in d)
+    × (map view top.listed.now ≡ list_at pairs key.Listed d)
+    × (map view top.prefectures.now ≡ prefecture_entries d)
+    × (map view top.groups.now ≡ group_entries d)
+    × (map view top.hospitals.now ≡ hospital_entries d)
+ReadsTop d (Err refusal) = first_of (top_checks d) ≡ Some refusal

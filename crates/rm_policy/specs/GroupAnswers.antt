@@ -1,0 +1,102 @@
+-- What reading the entries of groups and of hospitals answers.
+use Rattle.std.specs.Prelude.{◌≡◌, ◌≤◌, ℕ, ℤ, List, [], map, Option, Some, None, Result, Ok, Err}
+use Rattle.std.specs.Borrow.{Bor}
+use Rattle.toml.specs.Data.{Data}
+use Rattle.toml.specs.View.{view}
+use Rattle.rm_base.specs.Checks.{first_of}
+use Rattle.rm_base.specs.Names.{place_of}
+use Rattle.rm_base.specs.Reading.{Stops}
+use Rattle.rm_base.specs.Text.{Text}
+use Rattle.rm_base.specs.declared.ReadFault.{ReadFault}
+use Rattle.rm_base.specs.declared.Refusal.{Refusal}
+use Rattle.rm_market.specs.Steps.{steps_of}
+use Rattle.rm_market.specs.declared.Run.{Run}
+use Rattle.rm_roster.specs.Roster.{RosterData}
+use Rattle.rm_policy.specs.Entries.{name_in, numbers_of}
+use Rattle.rm_policy.specs.Groups.{element_checks, group_array_checks, group_checks, group_head_checks, group_limit_checks, group_shape_checks, groups_named, hospitals_named, prefectures_named, steps_of_group}
+use Rattle.rm_policy.specs.Hospitals.{hospital_checks, hospital_shape_checks, steps_in}
+use Rattle.rm_policy.specs.Steps.{flat, runs_in, runs_of}
+use Rattle.rm_policy.specs.declared.groups.Elements.{Elements}
+use Rattle.rm_policy.specs.declared.groups.GroupArrays.{GroupArrays}
+use Rattle.rm_policy.specs.declared.groups.GroupEntry.{GroupEntry}
+use Rattle.rm_policy.specs.declared.groups.GroupShape.{GroupShape}
+use Rattle.rm_policy.specs.declared.groups.Limit.{Limit}
+use Rattle.rm_policy.specs.declared.groups.Limit.TheVariants as limit
+use Rattle.rm_policy.specs.declared.hospitals.HospitalEntry.{HospitalEntry}
+use Rattle.rm_policy.specs.declared.hospitals.HospitalShape.{HospitalShape}
+
+-- ---- limits
+
+abbrev pub runs_of_limit : Limit → List Run
+runs_of_limit (limit.Cap n) = []
+runs_of_limit (limit.Runs values) = runs_of (map view values.now)
+
+abbrev pub steps_of_limit : Limit → List ℤ
+steps_of_limit (limit.Cap n) = flat n
+steps_of_limit (limit.Runs values) = steps_of (runs_of (map view values.now))
+
+abbrev pub IsFit : Limit → Type 0
+IsFit (limit.Cap n) = n ≤ 1000000
+IsFit (limit.Runs values) = Unit {0}
+
+abbrev pub ReadsLimit : ℕ → Data → Result Limit Refusal → Type 0
+ReadsLimit i d (Ok l) = (first_of (group_limit_checks i d) ≡ None) × (runs_of_limit l ≡ runs_in d) × (steps_of_limit l ≡ steps_of_group d) × IsFit l
+ReadsLimit i d (Err refusal) = first_of (group_limit_checks i d) ≡ Some refusal
+
+-- ---- groups
+
+abbrev pub ReadsGroupName : ℕ → Data → Result (Bor Text) Refusal → Type 0
+ReadsGroupName i d (Ok name) = (first_of (group_head_checks i d) ≡ None) × (name.now ≡ name_in d)
+ReadsGroupName i d (Err refusal) = first_of (group_head_checks i d) ≡ Some refusal
+
+abbrev pub ReadsArrays : ℕ → Data → Result GroupArrays Refusal → Type 0
+ReadsArrays i d (Ok a) =
+    (first_of (group_array_checks i d) ≡ None)
+    × (map view a.hospitals.now ≡ hospitals_named d)
+    × (map view a.prefectures.now ≡ prefectures_named d)
+    × (map view a.groups.now ≡ groups_named d)
+ReadsArrays i d (Err refusal) = first_of (group_array_checks i d) ≡ Some refusal
+
+abbrev pub ReadsGroupShape : ℕ → Data → Result GroupShape Refusal → Type 0
+ReadsGroupShape i d (Ok s) =
+    (first_of (group_shape_checks i d) ≡ None)
+    × (s.name.now ≡ name_in d)
+    × (runs_of_limit s.limit ≡ runs_in d)
+    × (steps_of_limit s.limit ≡ steps_of_group d)
+    × IsFit s.limit
+    × (map view s.arrays.hospitals.now ≡ hospitals_named d)
+    × (map view s.arrays.prefectures.now ≡ prefectures_named d)
+    × (map view s.arrays.groups.now ≡ groups_named d)
+ReadsGroupShape i d (Err refusal) = first_of (group_shape_checks i d) ≡ Some refusal
+
+abbrev pub ReadsElements : RosterData → List Text → ℕ → List Data → List Data → List Data → Result Elements ReadFault → Type 0
+ReadsElements r names i hospitals prefectures groups (Ok e) =
+    (first_of (element_checks r names i hospitals prefectures groups) ≡ None)
+    × (e.hospitals.items ≡ numbers_of r.hospitals hospitals)
+    × (e.prefectures.items ≡ numbers_of r.prefectures prefectures)
+    × (e.groups.items ≡ numbers_of names groups)
+ReadsElements r names i hospitals prefectures groups (Err fault) = Stops (first_of (element_checks r names i hospitals prefectures groups)) fault
+
+abbrev pub ReadsGroup : RosterData → ℕ → List Text → Data → Result GroupEntry ReadFault → Type 0
+ReadsGroup r first names d (Ok e) =
+    (first_of (group_checks r first names d) ≡ None)
+    × (e.name.now ≡ name_in d)
+    × (e.elements.hospitals.items ≡ numbers_of r.hospitals (hospitals_named d))
+    × (e.elements.prefectures.items ≡ numbers_of r.prefectures (prefectures_named d))
+    × (e.elements.groups.items ≡ numbers_of names (groups_named d))
+    × (e.steps ≡ steps_of_group d)
+ReadsGroup r first names d (Err fault) = Stops (first_of (group_checks r first names d)) fault
+
+-- ---- hospitals
+
+abbrev pub ReadsHospitalShape : ℕ → Data → Result HospitalShape Refusal → Type 0
+ReadsHospitalShape i d (Ok s) = (first_of (hospital_shape_checks i d) ≡ None) × (s.name.now ≡ name_in d) × (runs_of (map view s.runs.now) ≡ runs_in d)
+ReadsHospitalShape i d (Err refusal) = first_of (hospital_shape_checks i d) ≡ Some refusal
+
+abbrev pub ReadsHospital : RosterData → (ℕ → Option ℕ) → ℕ → Data → Result HospitalEntry ReadFault → Type 0
+ReadsHospital r former i d (Ok e) =
+    (first_of (hospital_checks r former i d) ≡ None)
+    × (place_of r.hospitals (name_in d) ≡ Some e.hospital)
+    × (former e.hospital ≡ None)
+    × (e.steps ≡ steps_in d)
+ReadsHospital r former i d (Err fault) = Stops (first_of (hospital_checks r former i d)) fault
