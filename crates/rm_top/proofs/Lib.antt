@@ -1,5 +1,12 @@
+pub mod Answering
+pub mod Endings
+pub mod FillingSeats
 pub mod FirstFew
 pub mod FirstSeats
+pub mod FolderChecks
 pub mod Marks
+pub mod Pieces
 pub mod PlainStable
-pub mod FillingSeats
+pub mod Reporting
+pub mod TextRows
+pub mod PlacesWithin

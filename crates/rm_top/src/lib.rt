@@ -1,10 +1,124 @@
-//! The placement of a folder.
+//! The top call, which does all that the program does.
 #![tactic(auto)]
 
+ghost use Rattle.std.specs.Prelude.{◌≡◌, ◌≢◌, ◌⊎◌, ◌≤◌, ◌↔◌, ℕ, map, Option, Some, None, string_bytes, IfOk};
+ghost use Rattle.rm_base.specs.Text.{Text};
+ghost use Rattle.rm_outside.specs.Outside.{HasRisen};
+ghost use Rattle.rm_top.specs.Answers.{written, bad_words, read_failed, write_failed, no_memory, WroteText, WrotePart, IsRosterText, IsRefusedWhere, Reports, IsErrorText, IsComplete};
+ghost use Rattle.rm_top.specs.Command.{command_of, meant};
+ghost use Rattle.rm_top.specs.Ending.{Ends, EndsCommand};
+
+mod command;
+mod ending;
+mod folder;
+mod output;
 mod rounds;
 mod seats;
+mod texts;
 
-pub use rounds::place_all;
+use command::{Command, command_of};
+use ending::{Ending, report};
+use folder::{LoadFault, load};
+use output::put_text;
+use rm_outside::{Shelf, Sink};
+use rm_roster::Roster;
+use rounds::place_all;
+use std::alloc::{AllocError, Global};
+use texts::{check_text, placement_text, read_fault_text, refusal_text};
 
-/// The want of memory.
-pub type NoMemory = std::alloc::AllocError;
+/// Want of memory, where it is the only refusal.
+pub type NoMemory = AllocError;
+
+// The text of a command on the roster of its folder.
+fn text_on(alloc: Global, command: Command<'_>, roster: &Roster) -> Result<Vec<u8>, NoMemory>
+    ensures { IfOk result (λ text. IsRosterText (meant command.entry) roster.now text.items) }
+{
+    match command {
+        Command::Place(_) => {
+            let places = place_all(alloc, roster)?;
+            let text = placement_text(alloc, roster, &places)?;
+            Ok(text)
+        }
+        Command::Check(_) => {
+            let text = check_text(alloc, roster)?;
+            Ok(text.into_bytes())
+        }
+    }
+}
+
+// Does what a command says.
+fn answer<S: Shelf, O: Sink>(
+    alloc: Global,
+    command: Command<'_>,
+    shelf: &mut S,
+    out: &mut O,
+) -> Ending
+    ensures ends { EndsCommand (record { files = S.files shelf.old; blame = S.blame shelf.new; shelf_before = S.faults shelf.old; shelf_after = S.faults shelf.new; out_before = O.faults out.old; out_after = O.faults out.new; before = O.written out.old; after = O.written out.new }) (meant command.entry) result }
+    ensures files { S.files shelf.new ≡ S.files shelf.old }
+{
+    match load(alloc, command.folder(), shelf) {
+        Ok(roster) => match text_on(alloc, command, &roster) {
+            Ok(text) => match put_text(out, &text) {
+                Ok(()) => Ending::Written,
+                Err(_) => Ending::WriteFailed,
+            },
+            Err(_) => Ending::NoMemory,
+        },
+        Err(LoadFault::Refused(refusal)) => match refusal_text(alloc, &refusal) {
+            Ok(text) => Ending::Refused(text),
+            Err(_) => Ending::NoMemory,
+        },
+        Err(LoadFault::Read(file)) => match read_fault_text(alloc, file) {
+            Ok(text) => Ending::ReadFailed(text),
+            Err(_) => Ending::NoMemory,
+        },
+        Err(LoadFault::NoMemory) => Ending::NoMemory,
+    }
+}
+
+// Does what the words say.
+fn perform<S: Shelf, O: Sink>(alloc: Global, words: &[String], shelf: &mut S, out: &mut O) -> Ending
+    ensures ends { Ends (record { files = S.files shelf.old; blame = S.blame shelf.new; shelf_before = S.faults shelf.old; shelf_after = S.faults shelf.new; out_before = O.faults out.old; out_after = O.faults out.new; before = O.written out.old; after = O.written out.new }) (command_of (map string_bytes words.now)) result }
+    ensures files { S.files shelf.new ≡ S.files shelf.old }
+{
+    match command_of(words) {
+        Some(command) => answer(alloc, command, shelf, out),
+        None => Ending::BadWords,
+    }
+}
+
+/// Does all that the program does with these words, which stand after its name, and answers its status: 0 where the text was
+/// written, 2 where the words spell no command, 3 where the folder is refused, 4 where the shelf failed, 5 where `out` failed,
+/// and 6 for want of memory. What `err` gains says which.
+pub fn run<S: Shelf, O: Sink, E: Sink>(
+    alloc: Global,
+    words: &[String],
+    shelf: &mut S,
+    out: &mut O,
+    err: &mut E,
+) -> u8
+    ensures status { (result ≤ no_memory) × (result ≢ 1) }
+
+    // Each status has its cause.
+    ensures words { (result ≡ bad_words) ↔ (command_of (map string_bytes words.now) ≡ None) }
+    ensures refused { IsRefusedWhere (S.files shelf.old) (command_of (map string_bytes words.now)) result }
+    ensures read { result ≡ read_failed → HasRisen (S.faults shelf.old) (S.faults shelf.new) }
+    ensures write { result ≡ write_failed → HasRisen (O.faults out.old) (O.faults out.new) }
+    ensures complete { IsComplete (S.files shelf.old) (command_of (map string_bytes words.now)) result
+        (HasRisen (S.faults shelf.old) (S.faults shelf.new)) (HasRisen (O.faults out.old) (O.faults out.new)) }
+
+    // What is written.
+    ensures text { result ≡ written → WroteText (S.files shelf.old) (command_of (map string_bytes words.now)) (O.written out.old) (O.written out.new) }
+    ensures part { result ≡ write_failed → WrotePart (S.files shelf.old) (command_of (map string_bytes words.now)) (O.written out.old) (O.written out.new) }
+    ensures unchanged { result ≢ written → result ≢ write_failed → O.written out.new ≡ O.written out.old }
+    ensures told { (text : Text) × IsErrorText (S.files shelf.old) (S.blame shelf.new) (command_of (map string_bytes words.now)) result text
+        × Reports (E.faults err.old) (E.faults err.new) (E.written err.old) (E.written err.new) text }
+    ensures files { S.files shelf.new ≡ S.files shelf.old }
+{
+    let ending = perform(alloc, words, shelf, out);
+    report(ending.text(), err);
+    ending.status()
+}
+
+#[cfg(test)]
+mod tests;

@@ -1,6 +1,6 @@
 //! The rounds of a folder without a policy.
 
-ghost use Rattle.std.specs.Prelude.{◌≡◌, ℕ, ◌<◌, List, map, length, IfOk};
+ghost use Rattle.std.specs.Prelude.{◌≡◌, ℕ, ◌<◌, List, map, length, get_or, Some, None, IfOk};
 ghost use Rattle.rm_sets.specs.Sets.{IsIn, below};
 ghost use Rattle.rm_market.specs.Board.{pairs_of};
 ghost use Rattle.rm_market.specs.Stable.{IsOnlyOptimal, Takes};
@@ -24,7 +24,9 @@ use std::alloc::Global;
 /// The placement of a roster for the capacities alone: no hospital holds more doctors than it has seats, and each hospital that a
 /// doctor prefers to his place is full of doctors whom it ranks above him.
 pub fn place_all(alloc: Global, roster: &Roster) -> Result<Places, NoMemory>
-    ensures { IfOk result (λ places. (S : List ℕ) × IsPlainStable roster.now S × (places ≡ places_of (market_of roster.now) S)) }
+    ensures stable { IfOk result (λ places. (S : List ℕ) × IsPlainStable roster.now S × (places ≡ places_of (market_of roster.now) S)) }
+    ensures doctors { IfOk result (λ places. length places ≡ length roster.now.doctors) }
+    ensures hospitals { IfOk result (λ places. (c h : ℕ) → get_or places c None ≡ Some h → h < length roster.now.hospitals) }
 {
     let contracts = Contracts::build(alloc, roster.ranks())?;
     let listed = listed(alloc, roster.lists(), &contracts)?;

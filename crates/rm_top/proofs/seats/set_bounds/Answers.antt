@@ -7,7 +7,7 @@ index_mut-requires c =
     let n = c.count-x-end.ensures in
     let x = c.loop-x-test.true in
     let lt = hospital_below c.args.contracts.now c.loop-x.x (omega (arith, n, x)) in
-    let e = c.hospital.ensures in
+    let e = c.hospital.ensures.hospital in
     let long = c.loop-x.invariant.long in
     let len = c.loop-x.bounds.ok.0 in
     omega (arith, lt, e, long, len)
@@ -17,7 +17,7 @@ loop-x-preserved c =
     let n = c.count-x-end.ensures in
     let x = c.loop-x-test.true in
     let inv = c.loop-x.invariant in
-    rw c.hospital.ensures (record {
+    rw c.hospital.ensures.hospital (record {
       long = length-set c.loop-x.bounds.items _ (c.loop-x.x + 1) ∙ inv.long;
       below = below_more c.args.contracts.now c.loop-x.bounds.items c.loop-x.x (omega (arith, n, x)) inv.long inv.below;
       bounded = bounded_more c.args.contracts.now c.loop-x.bounds.items c.loop-x.x (omega (arith, n, x)) inv.long inv.bounded;

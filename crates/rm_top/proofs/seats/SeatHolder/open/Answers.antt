@@ -10,7 +10,7 @@ invariant_of-result c =
     let long = c.len.ensures in
     let len = c.args.capacities.ok.0 in
     let hospitals = c.requires.hospitals in
-    record { filled = filled_first c.args.contracts.now c.args.capacities.items _ _ _ c.len.result hospitals (m ∙ ap (λ n. replicate n false) c.count.ensures) k (omega (arith, long, len, hospitals)) did.hospitals did.below did.bounded }
+    record { filled = filled_first c.args.contracts.now c.args.capacities.items _ _ _ c.len.result hospitals (m ∙ ap (λ n. replicate n false) c.count.ensures.count) k (omega (arith, long, len, hospitals)) did.hospitals did.below did.bounded }
 
 pub returns-clause-held : goal.returns-clause-held
 returns-clause-held c =

@@ -1,0 +1,1 @@
+use Rattle.rm_top.proofs.texts.listed_count.Goals as goal
