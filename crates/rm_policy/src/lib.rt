@@ -36,3 +36,6 @@ pub enum Ties {
     ByHospital,
     Listed,
 }
+
+#[cfg(test)]
+mod tests;
