@@ -1,135 +1,302 @@
-// Commands over files in memory.
+// Whole calls over files in memory: what a folder comes to, which fault ends a call, and how many fetches and puts are made.
 
 use super::*;
+use rm_outside::FetchFault;
 use rm_outside::memory::{MemoryShelf, MemorySink};
 use std::test::Fail;
 
-// The files of a folder, the command word, the numbers of the fetch and of the put that fail, the room, and what is wanted.
+// A call on the files of a folder F, and what is wanted of it.
 #[derive(Clone, Copy)]
-struct Row {
+struct Row<'a> {
     name: &'static str,
-    command: &'static str,
-    hospitals: &'static str,
-    doctors: &'static str,
-    ranks: &'static str,
-    policy: Option<&'static str>,
-    failing: u32,
-    room: usize,
+    words: &'a [&'static str],
+    hospitals: &'a [u8],
+    doctors: &'a [u8],
+    ranks: Option<&'a [u8]>,
+    policy: Option<&'a [u8]>,
+    // The numbers of the fetches, of the puts to `out` and of the puts to `err` that fail, counted from 1. The last number of
+    // each list is that of the first one that isn't made.
+    fetches: &'a [u32],
+    puts: &'a [u32],
+    reports: &'a [u32],
     status: u8,
-    out: &'static str,
-    err: &'static str,
+    out: &'a [u8],
+    err: &'a [u8],
 }
 
-const PLACED: Row = Row {
-    name: "each has a place",
-    command: "place",
-    hospitals: "hospital,prefecture,capacity,target\nH1,P,1,0\nH2,P,1,0\n",
-    doctors: "doctor,choices\nA,H1,H2\nB,H1\n",
-    ranks: "hospital,doctors\nH1,B,A\nH2,A\n",
+const DOCTORS: &[u8] = b"doctor,choices\nA,H1,H2\n";
+
+const PLACED: Row<'static> = Row {
+    name: "a choice that doesn't rank him back is passed over",
+    words: &["place", "F"],
+    hospitals: b"hospital,prefecture,capacity,target\nH1,P,1,0\nH2,P,1,0\n",
+    doctors: DOCTORS,
+    ranks: Some(b"hospital,doctors\nH2,A\n"),
     policy: None,
-    failing: 0,
-    room: 1000,
+    fetches: &[5],
+    puts: &[2],
+    reports: &[1],
     status: 0,
-    out: "doctor,hospital\nA,H2\nB,H1\n",
-    err: "",
+    out: b"doctor,hospital\nA,H2\n",
+    err: b"",
 };
 
-const ROWS: [Row; 9] = [
+const CHECKED: Row<'static> = Row {
+    name: "counts",
+    words: &["check", "F"],
+    out: b"kind steps\nties by-rank\nhospitals 2\ndoctors 1\ncontracts 1\nlisted 1\nnodes 2\ndepth 1\n",
+    ..PLACED
+};
+
+const REFUSED: Row<'static> = Row {
+    name: "a choice of no hospital",
+    doctors: b"doctor,choices\nA,H1,H9\n",
+    puts: &[1],
+    reports: &[2],
+    status: 3,
+    out: b"",
+    err: b"refused 19 2 1 3\n",
+    ..PLACED
+};
+
+const NO_COMMAND: Row<'static> = Row {
+    name: "no words",
+    words: &[],
+    fetches: &[1],
+    status: 2,
+    err: b"usage: rm_match place F | check F\n",
+    ..REFUSED
+};
+
+const UNREAD: Row<'static> = Row {
+    name: "the first fetch fails, and no second one is made",
+    fetches: &[1, 2],
+    status: 4,
+    err: b"read fault 1\n",
+    ..REFUSED
+};
+
+static ROWS: [Row<'static>; 30] = [
     PLACED,
     Row {
-        name: "counts",
-        command: "check",
-        out: "kind steps\nties by-rank\nhospitals 2\ndoctors 2\ncontracts 3\nlisted 3\nnodes 2\ndepth 1\n",
+        name: "no doctors and no ranks",
+        doctors: b"doctor,choices\n",
+        ranks: Some(b"hospital,doctors\n"),
+        out: b"doctor,hospital\n",
         ..PLACED
     },
     Row {
-        name: "unknown hospital",
-        doctors: "doctor,choices\nA,H9\n",
-        status: 3,
-        out: "",
-        err: "refused 19 2 1 2\n",
+        name: "mark, line ends, empty cells and a comma in a name",
+        hospitals: b"\xef\xbb\xbfhospital,prefecture,capacity,target,,\r\n\"St. Luke, East\",P,1,,,\r\n",
+        doctors: b"doctor,choices\nA,\"St. Luke, East\"\n",
+        ranks: Some(b"hospital,doctors\n\"St. Luke, East\",A\n"),
+        out: b"doctor,hospital\nA,\"St. Luke, East\"\n",
         ..PLACED
+    },
+    Row {
+        name: "a full hospital keeps whom it ranks higher",
+        doctors: b"doctor,choices\nA,H1\nB,H1\n",
+        ranks: Some(b"hospital,doctors\nH1,B,A\n"),
+        out: b"doctor,hospital\nA,\nB,H1\n",
+        ..PLACED
+    },
+    Row {
+        name: "the greatest capacity",
+        hospitals: b"hospital,prefecture,capacity,target\nH1,P,10000,0\nH2,P,1,0\n",
+        ..PLACED
+    },
+    Row {
+        name: "the longest name",
+        hospitals: b"hospital,prefecture,capacity,target\nnnnnnnnnnnnnnnnnnnnnnnnnnnnnnnnnnnnnnnnnnnnnnnnnnnnnnnnnnnnnnnnn,P,1,0\n",
+        doctors: b"doctor,choices\nA\n",
+        ranks: Some(b"hospital,doctors\n"),
+        out: b"doctor,hospital\nA,\n",
+        ..PLACED
+    },
+    CHECKED,
+    Row {
+        name: "counts without hospitals",
+        hospitals: b"hospital,prefecture,capacity,target\n",
+        doctors: b"doctor,choices\n",
+        ranks: Some(b"hospital,doctors\n"),
+        out: b"kind steps\nties by-rank\nhospitals 0\ndoctors 0\ncontracts 0\nlisted 0\nnodes 0\ndepth 0\n",
+        ..CHECKED
+    },
+    REFUSED,
+    Row {
+        name: "a choice that was cut short",
+        hospitals: b"hospital,prefecture,capacity,target\nHama,P,1,0\n",
+        doctors: b"doctor,choices\nA,Ha",
+        ranks: Some(b"hospital,doctors\nHama,A\n"),
+        err: b"refused 19 2 1 2\n",
+        ..REFUSED
+    },
+    Row {
+        name: "a capacity above the limit",
+        hospitals: b"hospital,prefecture,capacity,target\nH1,P,10001,0\n",
+        err: b"refused 17 1 1 3\n",
+        ..REFUSED
+    },
+    Row {
+        name: "a name that is too long",
+        hospitals: b"hospital,prefecture,capacity,target\nnnnnnnnnnnnnnnnnnnnnnnnnnnnnnnnnnnnnnnnnnnnnnnnnnnnnnnnnnnnnnnnnn,P,1,0\n",
+        err: b"refused 14 1 1 1\n",
+        ..REFUSED
     },
     Row {
         name: "a target that is no number",
-        hospitals: "hospital,prefecture,capacity,target\nH1,P,1,x\n",
-        status: 3,
-        out: "",
-        err: "refused 16 1 1 4\n",
-        ..PLACED
+        hospitals: b"hospital,prefecture,capacity,target\nH1,P,1,x\n",
+        err: b"refused 16 1 1 4\n",
+        ..REFUSED
     },
     Row {
-        name: "a policy",
-        policy: Some("version = 1\n"),
-        status: 3,
-        out: "",
-        err: "refused 28 4 0 0\n",
-        ..PLACED
+        name: "a repeated doctor",
+        doctors: b"doctor,choices\nA,H1\nA,H1\n",
+        err: b"refused 15 2 2 1\n",
+        ..REFUSED
     },
     Row {
-        name: "third fetch fails",
-        failing: 3,
-        status: 4,
-        out: "",
-        err: "read fault 3\n",
-        ..PLACED
+        name: "a doctor ranked twice",
+        doctors: b"doctor,choices\nA,H1\n",
+        ranks: Some(b"hospital,doctors\nH1,A,A\n"),
+        err: b"refused 21 3 1 3\n",
+        ..REFUSED
     },
     Row {
-        name: "no room",
-        room: 25,
+        name: "a row that isn't text",
+        doctors: b"doctor,choices\nA,H1\n\xff,H1\n",
+        err: b"refused 12 2 2 0\n",
+        ..REFUSED
+    },
+    Row {
+        name: "a missing file comes before what the others say",
+        ranks: None,
+        err: b"refused 10 3 0 0\n",
+        ..REFUSED
+    },
+    Row {
+        name: "a policy, though empty",
+        doctors: DOCTORS,
+        policy: Some(b""),
+        err: b"refused 28 4 0 0\n",
+        ..REFUSED
+    },
+    Row {
+        name: "a policy comes after what the tables say",
+        words: &["check", "F"],
+        policy: Some(b"version = 1\nkind = \"steps\"\n"),
+        ..REFUSED
+    },
+    Row {
+        name: "a report that is not written leaves the status",
+        reports: &[1, 2],
+        err: b"",
+        ..REFUSED
+    },
+    NO_COMMAND,
+    Row {
+        name: "no folder",
+        words: &["place"],
+        ..NO_COMMAND
+    },
+    Row {
+        name: "a command that is not built",
+        words: &["drill", "0", "1"],
+        ..NO_COMMAND
+    },
+    Row {
+        name: "an unknown command",
+        words: &["plan", "F"],
+        ..NO_COMMAND
+    },
+    UNREAD,
+    Row {
+        name: "the second fetch fails",
+        fetches: &[2, 3],
+        err: b"read fault 2\n",
+        ..UNREAD
+    },
+    Row {
+        name: "the third fetch fails",
+        doctors: DOCTORS,
+        fetches: &[3, 4],
+        err: b"read fault 3\n",
+        ..UNREAD
+    },
+    Row {
+        name: "a failed fetch comes before a refusal",
+        fetches: &[4, 5],
+        err: b"read fault 4\n",
+        ..UNREAD
+    },
+    Row {
+        name: "the put fails",
+        puts: &[1, 2],
+        reports: &[2],
         status: 5,
-        out: "",
-        err: "write fault\n",
+        out: b"",
+        err: b"write fault\n",
         ..PLACED
     },
     Row {
-        name: "no command",
-        command: "plan",
-        status: 2,
-        out: "",
-        err: "usage: rm_match place F | check F\n",
-        ..PLACED
-    },
-    Row {
-        name: "no doctors",
-        doctors: "doctor\n",
-        ranks: "hospital\n",
-        out: "doctor,hospital\n",
+        name: "neither put is taken",
+        puts: &[1, 2],
+        reports: &[1, 2],
+        status: 5,
+        out: b"",
         ..PLACED
     },
 ];
 
-// The shelf of a row.
-fn shelf_of(alloc: Global, row: &Row) -> Result<MemoryShelf, AllocError> {
-    let mut shelf = MemoryShelf::new(vec![in alloc; row.failing]?);
-    shelf.add("F/hospitals.csv", row.hospitals.as_bytes())?;
-    shelf.add("F/doctors.csv", row.doctors.as_bytes())?;
-    shelf.add("F/ranks.csv", row.ranks.as_bytes())?;
+// The words of a row.
+fn words_of(alloc: Global, row: &Row<'_>) -> Result<Vec<String>, NoMemory> {
+    let mut words = Vec::new(alloc);
+    for word in row.words {
+        words.push(String::from_str(alloc, word)?)?;
+    }
+    Ok(words)
+}
+
+// The folder of a row.
+fn shelf_of(alloc: Global, row: &Row<'_>) -> Result<MemoryShelf, NoMemory> {
+    let mut shelf = MemoryShelf::new(row.fetches.to_vec(alloc)?);
+    shelf.add("F/hospitals.csv", row.hospitals)?;
+    shelf.add("F/doctors.csv", row.doctors)?;
+    if let Some(ranks) = row.ranks {
+        shelf.add("F/ranks.csv", ranks)?;
+    }
     if let Some(policy) = row.policy {
-        shelf.add("F/policy.toml", policy.as_bytes())?;
+        shelf.add("F/policy.toml", policy)?;
     }
     Ok(shelf)
 }
 
-// Runs one row, and says whether its status and its texts are as wanted.
-fn holds(alloc: Global, row: &Row) -> Result<bool, AllocError> {
+// Makes the call of a row, and says whether all is as wanted.
+fn holds(alloc: Global, row: &Row<'_>) -> Result<bool, NoMemory> {
+    let words = words_of(alloc, row)?;
     let mut shelf = shelf_of(alloc, row)?;
-    let mut out = MemorySink::new(alloc, row.room, Vec::new(alloc))?;
-    let mut err = MemorySink::new(alloc, 100, Vec::new(alloc))?;
-    let words = vec![in alloc;
-        String::from_str(alloc, row.command)?,
-        String::from_str(alloc, "F")?,
-    ]?;
+    let mut out = MemorySink::new(alloc, 5000, row.puts.to_vec(alloc)?)?;
+    let mut err = MemorySink::new(alloc, 100, row.reports.to_vec(alloc)?)?;
     let status = run(alloc, &words, &mut shelf, &mut out, &mut err);
-    Ok(
-        status == row.status
-            && out.bytes() == row.out.as_bytes()
-            && err.bytes() == row.err.as_bytes(),
-    )
+    let told = status == row.status && out.bytes() == row.out && err.bytes() == row.err;
+    Ok(told && are_next(alloc, &mut shelf, &mut out, &mut err))
+}
+
+// Whether the calls that come next are those that fail.
+fn are_next(
+    alloc: Global,
+    shelf: &mut MemoryShelf,
+    out: &mut MemorySink,
+    err: &mut MemorySink,
+) -> bool {
+    let fetched = shelf.fetch(alloc, "", 0);
+    let put = out.put(b"");
+    let reported = err.put(b"");
+    matches!(&fetched, Err(FetchFault::Failed)) && put.is_err() && reported.is_err()
 }
 
 #[test]
-fn commands_answer(rt: HostRuntime) -> Result<(), Fail> {
+fn answers_rows(rt: HostRuntime) -> Result<(), Fail> {
     for row in &ROWS {
         let name = row.name;
         assert!(rt; holds(rt.alloc(), row)?, "{name}");
@@ -137,28 +304,50 @@ fn commands_answer(rt: HostRuntime) -> Result<(), Fail> {
     Ok(())
 }
 
-// An output of 4,216 bytes is put in two pieces, of which the second fails.
-#[test]
-fn long_outputs_come_in_pieces(rt: HostRuntime) -> Result<(), Fail> {
-    let alloc = rt.alloc();
-    let mut doctors = String::from_str(alloc, "doctor\n")?;
+// A header and a row for each of 600 doctors, each row with this end.
+fn rows_of_many(alloc: Global, header: &str, end: &str) -> Result<Vec<u8>, NoMemory> {
+    let mut text = String::from_str(alloc, header)?;
     for d in 1..601 {
-        let line = format!(in alloc; "d{d:04}\n")?;
-        doctors.push_str(&line)?;
+        let row = format!(in alloc; "d{d:04}{end}\n")?;
+        text.push_str(&row)?;
     }
-    let mut shelf = MemoryShelf::new(Vec::new(alloc));
-    shelf.add("F/hospitals.csv", PLACED.hospitals.as_bytes())?;
-    shelf.add("F/doctors.csv", doctors.as_bytes())?;
-    shelf.add("F/ranks.csv", b"hospital\n")?;
-    let mut out = MemorySink::new(alloc, 10_000, vec![in alloc; 2]?)?;
-    let mut err = MemorySink::new(alloc, 100, Vec::new(alloc))?;
-    let words = vec![in alloc;
-        String::from_str(alloc, "place")?,
-        String::from_str(alloc, "F")?,
-    ]?;
-    let status = run(alloc, &words, &mut shelf, &mut out, &mut err);
-    assert!(rt;
-        status == 5 && out.bytes().len() == 4096 && err.bytes() == b"write fault\n".as_slice()
-    );
+    Ok(text.into_bytes())
+}
+
+#[test]
+fn puts_pieces(rt: HostRuntime) -> Result<(), Fail> {
+    let alloc = rt.alloc();
+    let doctors = rows_of_many(alloc, "doctor,choices\n", "")?;
+    let placement = rows_of_many(alloc, "doctor,hospital\n", ",")?;
+    let mut piece = rows_of_many(alloc, "doctor,hospital\n", ",")?;
+    piece.truncate(4096);
+    assert!(rt; placement.len() == 4216 && piece.len() == 4096);
+    let whole = Row {
+        name: "two pieces",
+        doctors: &doctors,
+        ranks: Some(b"hospital,doctors\n"),
+        puts: &[3],
+        out: &placement,
+        ..PLACED
+    };
+    let first = Row {
+        name: "the second piece fails",
+        puts: &[2, 3],
+        reports: &[2],
+        status: 5,
+        out: &piece,
+        err: b"write fault\n",
+        ..whole
+    };
+    let none = Row {
+        name: "the first piece fails, and no second one is put",
+        puts: &[1, 2],
+        out: b"",
+        ..first
+    };
+    for row in &[whole, first, none] {
+        let name = row.name;
+        assert!(rt; holds(alloc, row)?, "{name}");
+    }
     Ok(())
 }
