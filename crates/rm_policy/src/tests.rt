@@ -12,7 +12,8 @@ const DOCTORS: &[u8] = b"doctor,choices\nA,H1,H2\n";
 
 const RANKS: &[u8] = b"hospital,doctors\nH2,A\n";
 
-const POLICY: &[u8] = b"version = 1\nkind = \"steps\"\nties = \"listed\"\nlisted = [[\"A\", \"H2\"]]\n[[prefecture]]\nname = \"P\"\ncap = 2\n[[group]]\nname = \"g\"\nhospitals = [\"H2\"]\nprefectures = [\"P\"]\nsteps = [[5, 2, 1]]\n[[hospital]]\nname = \"H2\"\nsteps = [[7, 1]]\n";
+const POLICY: &[u8] =
+    b"version = 1\nkind = \"steps\"\nties = \"listed\"\nlisted = [[\"A\", \"H2\"]]\n[[prefecture]]\nname = \"P\"\ncap = 2\n[[group]]\nname = \"g\"\nhospitals = [\"H2\"]\nprefectures = [\"P\"]\nsteps = [[5, 2, 1]]\n[[hospital]]\nname = \"H2\"\nsteps = [[7, 1]]\n";
 
 // Reads three tables; one that is not read counts as want of memory.
 fn roster(alloc: Global) -> Result<Roster, ReadFault> {
