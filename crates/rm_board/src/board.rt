@@ -105,7 +105,8 @@ impl Board {
     /// The innermost node of contract x, by which it is counted: the node of its hospital.
     pub fn leaf(&self, x: u32) -> u32
         requires { x < contract_count self.now }
-        ensures { result ≡ leaf_of self.now x }
+        ensures leaf { result ≡ leaf_of self.now x }
+        ensures below { result < length self.now.ranks }
     {
         self.contracts.hospital(x)
     }
