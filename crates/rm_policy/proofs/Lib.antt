@@ -1,4 +1,5 @@
 mod GroupRows
+pub mod GroupSets
 mod HospitalRows
 pub mod OnLiterals
 pub mod DocumentLemmas
