@@ -9,11 +9,10 @@ use Rattle.rm_market.specs.Tree.{below, sets_of, tree_sets, TreeOf}
 -- consecutive numbers below 10,000 are a set
 pub row-set : (start end : ℕ) (group : List ℕ) → ((k : ℕ) → k < length group → get_or group k 0 ≡ start + k) → ((k : ℕ) → k < length group → start + k < end) → end ≤ 10_000 → IsSetBelow 10_000 group
 row-set start end group items within most = record {
-  ascending = λ k lt. (
-    let this : get_or group k 0 ≡ start + k = items k (omega arith) in
-    let next : get_or group (k + 1) 0 ≡ start + (k + 1) = items (k + 1) lt in
-    omega arith
-  );
+  ascending = λ k lt.
+      let this : get_or group k 0 ≡ start + k = items k (omega arith) in
+      let next : get_or group (k + 1) 0 ≡ start + (k + 1) = items (k + 1) lt in
+      omega arith;
   below = λ x i.
       let p = place_from_IsIn group x 0 i in
       let lt : get_or group p.0 0 < 10_000 = (let this = items p.0 p.1 in let less = within p.0 p.1 in omega arith) in

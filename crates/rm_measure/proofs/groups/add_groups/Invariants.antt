@@ -1,4 +1,4 @@
-use Rattle.std.proofs.Common.{◌≡◌, ◌≤◌, length, All}
+use Rattle.std.proofs.Common.{◌≤◌, length, All}
 use Rattle.rm_sets.specs.Sets.{IsSetBelow}
 use Rattle.rm_measure.proofs.groups.add_groups.Given as goal
 

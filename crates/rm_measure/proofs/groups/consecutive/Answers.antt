@@ -1,4 +1,3 @@
-use Rattle.std.proofs.Common.{ℕ}
 use Rattle.rm_measure.proofs.Sizes.{row-set}
 use Rattle.rm_measure.proofs.groups.consecutive.Goals as goal
 

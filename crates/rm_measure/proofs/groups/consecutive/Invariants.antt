@@ -1,4 +1,4 @@
-use Rattle.std.proofs.Common.{◌≡◌, ◌+◌, ◌<◌, ◌≤◌, ℕ, length, get_or}
+use Rattle.std.proofs.Common.{◌≡◌, ◌+◌, ◌<◌, ℕ, length, get_or}
 use Rattle.rm_measure.proofs.groups.consecutive.Given as goal
 
 abbrev pub invariant-loop-h : goal.invariant-loop-h
