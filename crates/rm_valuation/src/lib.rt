@@ -6,7 +6,7 @@ ghost use Rattle.rm_sets.specs.Sets.{has, IsIn, IsSet, IsSetBelow, with_one, wit
 ghost use Rattle.rm_market.specs.Board.{Board as MarketBoard, contract_count, node_at, is_feasible, total, worth};
 ghost use Rattle.rm_market.specs.Best.{IsValuation, values_of};
 ghost use Rattle.rm_valuation_laws.specs.Changes.{IsChain};
-ghost use Rattle.rm_valuation.specs.Counts.{IsMarketBoard, AreCounts, IsGain};
+ghost use Rattle.rm_valuation.specs.Counts.{HasLeaves, BoardsHaveLeaves, AreCounts, IsGain};
 
 use rm_board::Board;
 
@@ -14,9 +14,15 @@ mod laminar;
 
 pub use laminar::Laminar;
 
+/// On a board whose first nodes are the hospitals, the leaf of each contract is the node of a hospital.
+pub fn boards_have_leaves()
+    ensures { BoardsHaveLeaves }
+{}
+
 // The nodes of contract x, innermost first.
 fn chain(board: &Board, x: u32) -> &[u32]
-    requires { x < contract_count board.now }
+    requires leaves { HasLeaves board.now }
+    requires contract { x < contract_count board.now }
     ensures chain { IsChain board.now x result.now }
     ensures few { length result.now < 2 ^ 32 }
 {
@@ -63,6 +69,7 @@ pub fn count_none(counts: &mut [u32])
 
 /// Counts contract x in: from the counts of a set without x, those of the set with it.
 pub fn count_in(board: &Board, counts: &mut [u32], x: u32)
+    requires leaves { HasLeaves board.now }
     requires contract { x < contract_count board.now }
     requires nodes { length counts.old ≡ length board.now.nodes }
     ensures nodes { length counts.new ≡ length board.now.nodes }
@@ -75,6 +82,7 @@ pub fn count_in(board: &Board, counts: &mut [u32], x: u32)
 
 /// Counts contract z out: from the counts of a set with z, those of the set without it.
 pub fn count_out(board: &Board, counts: &mut [u32], z: u32)
+    requires leaves { HasLeaves board.now }
     requires contract { z < contract_count board.now }
     requires nodes { length counts.old ≡ length board.now.nodes }
     ensures nodes { length counts.new ≡ length board.now.nodes }
@@ -141,6 +149,7 @@ fn last_step(board: &Board, counts: &[u32], node: u32) -> i64
 /// The change of worth by adding contract x to the feasible set without x that has these counts. None exactly where that
 /// set with x isn't feasible.
 pub fn gain(board: &Board, counts: &[u32], x: u32) -> Option<i64>
+    requires leaves { HasLeaves board.now }
     requires contract { x < contract_count board.now }
     requires nodes { length counts.now ≡ length board.now.nodes }
     ensures { (S : List ℕ) → IsFalse (has x S) → IsTrue (is_feasible board.now S) → AreCounts board.now S counts.now → IsGain board.now S x result }
@@ -158,6 +167,7 @@ pub fn gain(board: &Board, counts: &[u32], x: u32) -> Option<i64>
 
 /// The worth of the feasible set with contract z that has these counts, less its worth without z.
 pub fn loss(board: &Board, counts: &[u32], z: u32) -> i64
+    requires leaves { HasLeaves board.now }
     requires contract { z < contract_count board.now }
     requires nodes { length counts.now ≡ length board.now.nodes }
     ensures { (S : List ℕ) → IsSet S → IsIn z S → IsTrue (is_feasible board.now S) → AreCounts board.now S counts.now → result ≡ worth board.now S -ℤ worth board.now (without S z) }
