@@ -1,14 +1,12 @@
 -- The nodes of a contract, as a tree gives them.
-use Rattle.std.proofs.Common.{◌≡◌, ◌∙◌, ℕ, ◌+◌, ◌≤◌, List, [], ◌∷◌, Bool, true, false, cond, ◌&&◌, length, map, filter, get_or, eqb, ltb, refl, sym, ap, arith}
+use Rattle.std.proofs.Common.{◌≡◌, ◌∙◌, ℕ, ◌+◌, ◌<◌, ◌≤◌, List, [], ◌∷◌, Bool, true, false, cond, ◌&&◌, ◌||◌, length, map, filter, eqb, ltb, refl, sym, ap, arith}
 use Rattle.std.proofs.lemmas.Bool.{or_parts, and_parts, ltb-true, lt-ltb}
-use Rattle.std.proofs.lemmas.List.{length-map, get_or_default}
+use Rattle.std.proofs.lemmas.List.{length-map}
 use Rattle.std.proofs.lemmas.List.Sums.{length-filter, count_by-le-length}
-use Rattle.rm_sets.specs.Sets.{has, IsOnce, below}
+use Rattle.rm_sets.specs.Sets.{has, IsIn, IsOnce, below}
 use Rattle.rm_sets.proofs.Sets.{IsSet-filter, IsSet-all_below}
 use Rattle.rm_sets.proofs.Once.{once_of_set, length-below}
-use Rattle.rm_market.specs.Board.{Board, leaf_of, pairs_of, sets_of}
-use Rattle.rm_board.proofs.Numbering.{hospital-below}
-use Rattle.rm_valuation.specs.Counts.{BoardsHaveLeaves}
+use Rattle.rm_market.specs.Board.{Board, leaf_of, sets_of}
 use Rattle.rm_market.specs.Tree.{put, in_order, chain, set_of, is_inside}
 use Rattle.rm_laminar.proofs.Members.{flip}
 use Rattle.rm_laminar.proofs.Order.{has-put, has-in_order}
@@ -88,11 +86,3 @@ chain_in b x =
 
 pub chain_is : (b : Board) (x leaf : ℕ) (sets : List (List ℕ)) (nodes : List ℕ) → sets ≡ sets_of b → leaf ≡ leaf_of b x → nodes ≡ chain sets leaf → IsChain b x nodes
 chain_is b x leaf sets nodes e f g = rw (g, e, f) (chain_in b x)
-
--- ---- leaves
-
-pub hospital_leaves : BoardsHaveLeaves
-hospital_leaves ranks steps groups ties x lt =
-    let leaves : List ℕ = map (λ p. p.1) (pairs_of ranks) in
-    let same = length-map (pairs_of ranks) (λ p. p.1) in
-    hospital-below ranks leaves x (get_or leaves x 0) refl lt (get_or_default leaves x 0 (get_or leaves x 0) (rw same lt))

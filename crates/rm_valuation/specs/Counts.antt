@@ -1,20 +1,11 @@
 -- Counts of contracts by node, and what one contract more changes.
-use Rattle.std.specs.Prelude.{◌≡◌, ℕ, ◌<◌, List, length, map, ℤ, ◌+ℤ◌, Option, Some, None, IsTrue, IsFalse}
+use Rattle.std.specs.Prelude.{◌≡◌, ℕ, List, map, ℤ, ◌+ℤ◌, Option, Some, None, IsTrue, IsFalse}
 use Rattle.rm_sets.specs.Sets.{with_one}
-use Rattle.rm_market.specs.Board.{Node, Board, IsBoard, contract_count, leaf_of, count, is_feasible, worth}
-use Rattle.rm_board_laws.specs.HospitalBoards.{hospital_board}
+use Rattle.rm_market.specs.Board.{Board, IsBoard, count, is_feasible, worth}
 
 -- the board of a market, with some number of doctors
 abbrev pub IsMarketBoard : Board → Type 0
 IsMarketBoard b = (doctors : ℕ) × IsBoard doctors b
-
--- the leaf of each contract is the node of a hospital
-abbrev pub HasLeaves : Board → Type 0
-HasLeaves b = (x : ℕ) → x < contract_count b → leaf_of b x < length b.ranks
-
--- so it is on each board whose first nodes are the hospitals
-abbrev pub BoardsHaveLeaves : Type 0
-BoardsHaveLeaves = (ranks : List (List ℕ)) (steps : ℕ → List ℤ) (groups : List Node) (ties : List ℕ) → HasLeaves (hospital_board ranks steps groups ties)
 
 -- how many contracts of S each node has, in the order of the nodes
 abbrev pub AreCounts : Board → List ℕ → List ℕ → Type 0

@@ -21,7 +21,7 @@ pub struct Laminar<'a> {
 }
 
 impl<'a> Laminar<'a> {
-    /// The valuation of this board of a market. Takes no memory.
+    /// The valuation of this board of a market.
     pub fn new(board: &'a Board) -> Laminar<'a>
         requires { IsMarketBoard board.now }
         ensures count { ⟦<Laminar<'a> as Valuation>⟧.count result ≡ contract_count board.now }

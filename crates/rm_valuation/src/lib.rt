@@ -1,9 +1,4 @@
 //! Worth of sets of contracts on a board, by counts at its nodes, and what one contract more or less changes.
-//!
-//! Counts are a slice with one number for each node of the board, in the order of the nodes' numbers: how many contracts
-//! of a set the node has. The calls speak of counts of sets; on other numbers they return, and mean nothing. They ask that
-//! the leaf of each contract is the node of a hospital, as `boards_have_leaves` says of the boards that are built. No call
-//! takes memory.
 #![tactic(auto)]
 
 ghost use Rattle.std.specs.Prelude.{◌≡◌, ◌+◌, ◌-◌, ◌*◌, ◌^◌, ◌<◌, ◌≤◌, ◌==◌, ℕ, ℤ, pos, ◌-ℤ◌, ◌≤ℤ◌, List, [], length, replicate, min, count_by, slice_get, slice_index, slice_index_or, All, IfSome, IsTrue, IsFalse};
@@ -11,7 +6,7 @@ ghost use Rattle.rm_sets.specs.Sets.{has, IsIn, IsSet, IsSetBelow, with_one, wit
 ghost use Rattle.rm_market.specs.Board.{Board as MarketBoard, contract_count, node_at, is_feasible, total, worth};
 ghost use Rattle.rm_market.specs.Best.{IsValuation, values_of};
 ghost use Rattle.rm_valuation_laws.specs.Changes.{IsChain};
-ghost use Rattle.rm_valuation.specs.Counts.{HasLeaves, BoardsHaveLeaves, AreCounts, IsGain};
+ghost use Rattle.rm_valuation.specs.Counts.{IsMarketBoard, AreCounts, IsGain};
 
 use rm_board::Board;
 
@@ -19,15 +14,9 @@ mod laminar;
 
 pub use laminar::Laminar;
 
-/// On a board whose first nodes are the hospitals, the leaf of each contract is the node of a hospital.
-pub fn boards_have_leaves()
-    ensures { BoardsHaveLeaves }
-{}
-
 // The nodes of contract x, innermost first.
 fn chain(board: &Board, x: u32) -> &[u32]
-    requires leaves { HasLeaves board.now }
-    requires contract { x < contract_count board.now }
+    requires { x < contract_count board.now }
     ensures chain { IsChain board.now x result.now }
     ensures few { length result.now < 2 ^ 32 }
 {
@@ -62,7 +51,7 @@ fn lower(counts: &mut [u32], places: &[u32])
     }
 }
 
-/// Makes the counts those of the empty set, all 0.
+/// Makes the counts those of the empty set. The slice has one number for each node of a board.
 pub fn count_none(counts: &mut [u32])
     ensures zero { counts.new ≡ replicate (length counts.old) 0 }
     ensures none { (b : MarketBoard) → length counts.old ≡ length b.nodes → AreCounts b [] counts.new }
@@ -72,9 +61,8 @@ pub fn count_none(counts: &mut [u32])
     }
 }
 
-/// Counts contract x in: the counts of a set without x become those of the set with it. Only the nodes of x are read.
+/// Counts contract x in: from the counts of a set without x, those of the set with it.
 pub fn count_in(board: &Board, counts: &mut [u32], x: u32)
-    requires leaves { HasLeaves board.now }
     requires contract { x < contract_count board.now }
     requires nodes { length counts.old ≡ length board.now.nodes }
     ensures nodes { length counts.new ≡ length board.now.nodes }
@@ -85,9 +73,8 @@ pub fn count_in(board: &Board, counts: &mut [u32], x: u32)
     raise(counts, chain(board, x));
 }
 
-/// Counts contract z out: the counts of a set with z become those of the set without it. Only the nodes of z are read.
+/// Counts contract z out: from the counts of a set with z, those of the set without it.
 pub fn count_out(board: &Board, counts: &mut [u32], z: u32)
-    requires leaves { HasLeaves board.now }
     requires contract { z < contract_count board.now }
     requires nodes { length counts.old ≡ length board.now.nodes }
     ensures nodes { length counts.new ≡ length board.now.nodes }
@@ -110,8 +97,7 @@ fn total_at(board: &Board, counts: &[u32], node: u32) -> i128
     steps.total(counts[node as usize])
 }
 
-/// The worth of the set that has these counts: the sum, over all nodes, of as many first steps as the set has contracts
-/// there.
+/// The worth of the set that has these counts.
 pub fn worth(board: &Board, counts: &[u32]) -> i128
     requires nodes { length counts.now ≡ length board.now.nodes }
     ensures { (S : List ℕ) → AreCounts board.now S counts.now → result ≡ worth board.now S }
@@ -153,9 +139,8 @@ fn last_step(board: &Board, counts: &[u32], node: u32) -> i64
 }
 
 /// The change of worth by adding contract x to the feasible set without x that has these counts. None exactly where that
-/// set with x isn't feasible. Only the nodes of x are read.
+/// set with x isn't feasible.
 pub fn gain(board: &Board, counts: &[u32], x: u32) -> Option<i64>
-    requires leaves { HasLeaves board.now }
     requires contract { x < contract_count board.now }
     requires nodes { length counts.now ≡ length board.now.nodes }
     ensures { (S : List ℕ) → IsFalse (has x S) → IsTrue (is_feasible board.now S) → AreCounts board.now S counts.now → IsGain board.now S x result }
@@ -171,10 +156,8 @@ pub fn gain(board: &Board, counts: &[u32], x: u32) -> Option<i64>
     Some(sum)
 }
 
-/// The worth of the feasible set with contract z that has these counts, less its worth without z. Only the nodes of z are
-/// read.
+/// The worth of the feasible set with contract z that has these counts, less its worth without z.
 pub fn loss(board: &Board, counts: &[u32], z: u32) -> i64
-    requires leaves { HasLeaves board.now }
     requires contract { z < contract_count board.now }
     requires nodes { length counts.now ≡ length board.now.nodes }
     ensures { (S : List ℕ) → IsSet S → IsIn z S → IsTrue (is_feasible board.now S) → AreCounts board.now S counts.now → result ≡ worth board.now S -ℤ worth board.now (without S z) }
@@ -186,6 +169,3 @@ pub fn loss(board: &Board, counts: &[u32], z: u32) -> i64
     }
     sum
 }
-
-#[cfg(test)]
-mod tests;

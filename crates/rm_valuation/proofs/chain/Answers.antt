@@ -13,4 +13,4 @@ prove-unreachable-requires c =
     omega arith
 
 pub returns-clause-chain : goal.returns-clause-chain
-returns-clause-chain c = chain_is c.args.board.now c.args.x c.leaf.result (sets_of c.tree-tree.result.now) c.chain-chain.result.now c.tree-tree.ensures.sets c.leaf.ensures c.chain-chain.ensures
+returns-clause-chain c = chain_is c.args.board.now c.args.x c.leaf.result (sets_of c.tree-tree.result.now) c.chain-chain.result.now c.tree-tree.ensures.sets c.leaf.ensures.leaf c.chain-chain.ensures
