@@ -74,3 +74,6 @@ impl<'a> Choice for Greedy<'a> {
         )
     }
 }
+
+#[cfg(test)]
+mod tests;
