@@ -14,6 +14,9 @@ pub const RANKS_FILE: u8 = 3;
 /// The file `policy.toml`.
 pub const POLICY_FILE: u8 = 4;
 
+/// The file of the command's own: the offers that it chooses of, the placement that it audits, or the list that it puts in a doctor's place.
+pub const OWN_FILE: u8 = 5;
+
 // ---- refusals of any file: `a` and `b` are 0
 
 /// A file that is needed is missing.
@@ -57,11 +60,6 @@ pub const REPEATED_ROW: u8 = 22;
 /// More than a limit allows; `b` is the number of the limit.
 pub const TOO_MANY: u8 = 23;
 
-// ---- refusals of what is not built yet
-
-/// The folder has a policy, which is not read yet; `a` and `b` are 0.
-pub const NOT_BUILT: u8 = 28;
-
 // ---- refusals of the policy: `a` is an item, the top being item 0, and `b` as the line says
 
 /// The text is no TOML; `a` and `b` are 0.
@@ -82,6 +80,9 @@ pub const UNKNOWN_ENTRY_NAME: u8 = 34;
 /// A second entry of the same name; `b` is the former item.
 pub const REPEATED_ENTRY: u8 = 35;
 
+/// Two groups cross: each holds a hospital that the other lacks, and they share one. `a` is the earlier item and `b` the later.
+pub const CROSSING_GROUPS: u8 = 36;
+
 /// The steps of a run rise; `b` is the run.
 pub const STEPS_RISE: u8 = 37;
 
@@ -94,11 +95,42 @@ pub const WRONG_ORDER: u8 = 39;
 /// A hospital has more steps than seats; `b` is 0.
 pub const MORE_STEPS_THAN_SEATS: u8 = 40;
 
+/// A group without hospitals; `b` is 0.
+pub const GROUP_EMPTY: u8 = 41;
+
 /// The targets of a prefecture sum to more than its cap; `b` is their sum.
 pub const TARGETS_ABOVE_CAP: u8 = 42;
 
 /// More than a limit allows; `b` is the number of the limit.
 pub const TOO_MANY_ITEMS: u8 = 43;
+
+// ---- refusals of a listed tie order: `a` is an element, counted from 1, and `b` a former one, unless the line says otherwise
+
+/// A listed pair that is no contract; `b` is 0.
+pub const LISTED_NO_CONTRACT: u8 = 50;
+
+/// A listed pair that stands before; `b` is the former element.
+pub const LISTED_REPEATED: u8 = 51;
+
+/// A contract that the list lacks; `a` is its doctor and `b` its hospital, both counted from 1.
+pub const LISTED_MISSING: u8 = 52;
+
+/// A pair that is listed against the hospital's rank list; `b` is the last former element of the hospital that it ranks below this one.
+pub const LISTED_AGAINST_RANKS: u8 = 53;
+
+// ---- refusals of the command's own part: `a` is a row and `b` a field, both counted from 1, unless the line says otherwise
+
+/// A name of no doctor; `a` is the number of the word, and `b` is 0, where the name is a word of the command line.
+pub const UNKNOWN_DOCTOR: u8 = 60;
+
+/// A name of no hospital.
+pub const UNKNOWN_HOSPITAL: u8 = 61;
+
+/// A doctor and a hospital that doesn't rank him.
+pub const NOT_CONTRACT: u8 = 65;
+
+/// A contract that stands before; `b` is the former row.
+pub const REPEATED_CONTRACT: u8 = 66;
 
 // ---- limits
 
@@ -160,3 +192,6 @@ pub const GROUPS_LIMIT: u64 = 6;
 
 /// The number of the limit on runs of steps.
 pub const RUNS_LIMIT: u64 = 7;
+
+/// The number of the limit on the nodes that contain one hospital.
+pub const DEPTH_LIMIT: u64 = 8;

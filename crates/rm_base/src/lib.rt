@@ -5,6 +5,7 @@ ghost use Rattle.std.specs.Prelude.{◌≡◌, ◌<◌, ◌≤◌, ◌+◌, ℕ,
 ghost use Rattle.rm_base.specs.Names.{place_of, Adds, AreDistinct};
 
 pub mod codes;
+pub mod text;
 
 use indexmap::IndexSet;
 use std::alloc::{AllocError, Global};
