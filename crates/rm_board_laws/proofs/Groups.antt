@@ -31,9 +31,6 @@ abbrev Fit : List (List ℕ) → List (List ℕ) → Type 0
 Fit before [] = Unit {0}
 Fit before (g ∷ groups) = Fits before g × Fit (before ++ g ∷ []) groups
 
-check_passed : {F : Type 0} (b : Bool) (fault : F) → b ≡ false → check b fault ≡ None
-check_passed b fault e = rw e refl
-
 position_none : (p : List ℕ → Bool) (L : List (List ℕ)) → All (λ x. p x ≡ false) L → position p L ≡ None
 position_none p L none = by (position p L) refl
   where

@@ -1,6 +1,6 @@
 -- Boards whose leaves are the hospitals: each hospital is a node, and groups of hospitals may follow.
 use Rattle.std.specs.Prelude.{◌≡◌, None, ◌==◌, ℕ, ◌<◌, List, [], ◌∷◌, ◌++◌, map, length, ℤ, pos, replicate, slice_index, IsFalse, All, AllPairs}
-use Rattle.std.specs.List.{IsDistinct}
+use Rattle.rm_base.specs.Lists.{IsListBelow}
 use Rattle.rm_sets.specs.Sets.{IsSet, below}
 use Rattle.rm_market.specs.Board.{Node, Board, IsBoard, IsFalling, IsTieOrder, crosses, pairs_of, sets_of}
 use Rattle.rm_market.specs.Tree.{tree_sets, tree_fault}
@@ -34,7 +34,7 @@ plain_market ranks capacities lists =
 
 -- lists of numbers below n, in each of which a number stands once
 abbrev pub AreListsBelow : ℕ → List (List ℕ) → Type 0
-AreListsBelow n lists = All (λ list. IsDistinct ◌==◌ list × All (λ x. x < n) list) lists
+AreListsBelow n lists = All (IsListBelow n) lists
 
 -- groups of hospitals of which any two are nested or apart, with steps that never rise
 pub record AreGroups (groups : List Node) : Type 0 where

@@ -1,5 +1,5 @@
 -- The worths of a hospital's seats never rise.
-use Rattle.std.proofs.Common.{◌≡◌, ℕ, zero, suc, ◌+◌, ◌-◌, ◌*◌, ◌<◌, Bool, true, false, cond, leb, length, get_or, replicate, ℤ, pos, ◌-ℤ◌, ◌≤ℤ◌, refl, sym, ap, ◌∙◌, subst₂, arith}
+use Rattle.std.proofs.Common.{◌≡◌, ℕ, ◌+◌, ◌-◌, ◌*◌, ◌<◌, Bool, true, false, cond, leb, length, ℤ, pos, ◌-ℤ◌, ◌≤ℤ◌, refl, sym, ◌∙◌, subst₂, arith}
 use Rattle.std.proofs.lemmas.Int.{ints}
 use Rattle.std.proofs.lemmas.List.FromFn.{get_or-map-range_with_len, length-map-range_with_len}
 use Rattle.rm_market.specs.Board.{IsFalling}
@@ -24,17 +24,3 @@ seat_steps_fall r j s k d lt =
     let b = get_or-map-range_with_len f 1 s.capacity (k + 1) ((k + 1) + 1) d (omega arith) (omega arith) ∙ worth-turn w m j s.target ((k + 1) + 1) in
     let up = turn_rises m j s.target (k + 1) ((k + 1) + 1) (omega arith) in
     subst₂ (λ y x. y ≤ℤ x) (sym b) (sym a) (omega (arith, ints))
-
-pub zeros_fall : (c : ℕ) → IsFalling (replicate c (pos 0))
-zeros_fall c k d lt =
-    let l = long c in
-    subst₂ (λ y x. y ≤ℤ x) (sym (at c (k + 1) d (omega arith))) (sym (at c k d (omega arith))) (omega (arith, ints))
-  where
-    long : (n : ℕ) → length (replicate n (pos 0)) ≡ n
-    long zero = refl
-    long (suc n) = ap suc (long n)
-
-    at : (n i : ℕ) (e : ℤ) → i < n → get_or (replicate n (pos 0)) i e ≡ pos 0
-    at zero i e lt = absurd (omega arith)
-    at (suc n) zero e lt = refl
-    at (suc n) (suc i) e lt = at n i e (omega arith)

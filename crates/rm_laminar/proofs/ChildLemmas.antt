@@ -8,8 +8,8 @@ use Rattle.std.proofs.lemmas.Option.{slice_get_within, unwrap_or-slice_get}
 use Rattle.rm_sets.specs.Sets.{has, IsIn, IsSet}
 use Rattle.rm_sets.proofs.Sets.{IsIn-here, IsIn-later, IsIn-cases, IsSet-first, has-append, IsSet-filter, IsSet-all_below}
 use Rattle.rm_sets.proofs.Members.{not_in_nil, IsIn-get_or, place_from_IsIn}
-use Rattle.rm_market.specs.Tree.{below, set_of, least, is_inside, is_number, in_order, chain, parent, children, sets_of, TreeOf}
-use Rattle.rm_laminar.specs.Chains.{IsOrdered, IsLaminar, IsChain}
+use Rattle.rm_market.specs.Tree.{below, set_of, least, is_inside, equals_number, in_order, chain, parent, children, sets_of_tree, TreeOf}
+use Rattle.rm_laminar.specs.Chains.{IsOrdered, IsLaminar, IsOrderedChain}
 use Rattle.rm_laminar.specs.Tree.{AreChildren}
 use Rattle.rm_laminar.proofs.Order.{Asymmetric, IsOrderOn, same_ordered, has-in_order, in_order-ordered}
 use Rattle.rm_laminar.proofs.Laminar.{inside-asymmetric, chain-is, chain-holds, holds-chain, has-below}
@@ -60,12 +60,12 @@ pub record Stands (sets : List (List ℕ)) (xs : List ℕ) (k : ℕ) : Type 0 wh
   pub here : get_or xs place 0 ≡ k
   pub next : parent sets k ≡ slice_get xs (place + 1)
 
-stands : (sets : List (List ℕ)) → IsLaminar sets → (leaf k : ℕ) (xs : List ℕ) → IsChain sets leaf xs → IsIn k xs → Stands sets xs k
+stands : (sets : List (List ℕ)) → IsLaminar sets → (leaf k : ℕ) (xs : List ℕ) → IsOrderedChain sets leaf xs → IsIn k xs → Stands sets xs k
 stands sets l leaf k xs c i =
     let p = place_from_IsIn xs k 0 i in
     record { place = p.0; within = p.1; here = p.2; next = parent-next sets l leaf p.0 k xs c p.1 p.2 }
 
-number-is : (o : Option ℕ) (n : ℕ) → is_number o n ≡ true → o ≡ Some n
+number-is : (o : Option ℕ) (n : ℕ) → equals_number o n ≡ true → o ≡ Some n
 number-is None n e = cc
 number-is (Some m) n e = ap Some (eqb-true m n e)
 
@@ -73,7 +73,7 @@ number-is (Some m) n e = ap Some (eqb-true m n e)
 
 -- k is a child of n with a lesser least hospital than h, or with h where it was seen
 abbrev pub is_listed : List (List ℕ) → ℕ → List ℕ → ℕ → ℕ → Bool
-is_listed sets h seen n k = (ltb k (length sets) && is_number (parent sets k) n) && (ltb (least sets k) h || (eqb (least sets k) h && has k seen))
+is_listed sets h seen n k = (ltb k (length sets) && equals_number (parent sets k) n) && (ltb (least sets k) h || (eqb (least sets k) h && has k seen))
 
 pub record AreListed (sets : List (List ℕ)) (h : ℕ) (seen : List ℕ) (lists : List (List ℕ)) : Type 0 where
   pub lengths : length lists ≡ length sets
@@ -97,7 +97,7 @@ unfolding IsOrdered
 none-listed sets lists e = record {
   lengths = rw e (length-replicate {A = List ℕ} (length sets) []);
   ordered = λ n lt. rw (e, get_or-replicate {A = List ℕ} (length sets) n [] [] lt) tt;
-  each = λ n k lt. rw (e, get_or-replicate {A = List ℕ} (length sets) n [] [] lt, le-ltb (least sets k) 0 (omega arith), and_false (eqb (least sets k) 0), and_false (ltb k (length sets) && is_number (parent sets k) n)) refl;
+  each = λ n k lt. rw (e, get_or-replicate {A = List ℕ} (length sets) n [] [] lt, le-ltb (least sets k) 0 (omega arith), and_false (eqb (least sets k) 0), and_false (ltb k (length sets) && equals_number (parent sets k) n)) refl;
 }
 
 -- each node has its least hospital
@@ -116,7 +116,7 @@ push-ordered first (x ∷ xs) k h p = (
 seen-other : (sets : List (List ℕ)) (h j n k : ℕ) (xs : List ℕ) → j < length xs → (k ≡ get_or xs j 0 → ⊥) → is_listed sets h (take j xs) n k ≡ is_listed sets h (take (j + 1) xs) n k
 seen-other sets h j n k xs lt apart = rw (has-more xs j k lt, ne_eqb k (get_or xs j 0) apart, or_false (has k (take j xs))) refl
 
-pub one-skipped : (sets lists : List (List ℕ)) (h j : ℕ) (xs : List ℕ) → IsLaminar sets → IsChain sets h xs → j < length xs → least sets (get_or xs j 0) ≤ h → (least sets (get_or xs j 0) ≡ h → ⊥) → AreListed sets h (take j xs) lists → AreListed sets h (take (j + 1) xs) lists
+pub one-skipped : (sets lists : List (List ℕ)) (h j : ℕ) (xs : List ℕ) → IsLaminar sets → IsOrderedChain sets h xs → j < length xs → least sets (get_or xs j 0) ≤ h → (least sets (get_or xs j 0) ≡ h → ⊥) → AreListed sets h (take j xs) lists → AreListed sets h (take (j + 1) xs) lists
 one-skipped sets lists h j xs l c lt le apart a = record {
   lengths = a.lengths;
   ordered = a.ordered;
@@ -132,11 +132,11 @@ one-skipped sets lists h j xs l c lt le apart a = record {
     strictly a b h e le apart = omega arith
 
 -- what is listed at the parent so far has a lesser least hospital
-earlier : (sets lists : List (List ℕ)) (h j x : ℕ) (xs : List ℕ) → IsLaminar sets → IsChain sets h xs → j + 1 < length xs → AreListed sets h (take j xs) lists → get_or xs (j + 1) 0 < length sets
+earlier : (sets lists : List (List ℕ)) (h j x : ℕ) (xs : List ℕ) → IsLaminar sets → IsOrderedChain sets h xs → j + 1 < length xs → AreListed sets h (take j xs) lists → get_or xs (j + 1) 0 < length sets
     → IsIn x (get_or lists (get_or xs (j + 1) 0) []) → least sets x < h
 earlier sets lists h j x xs l c lt a node i =
-    let both = and_parts (ltb x (length sets) && is_number (parent sets x) (get_or xs (j + 1) 0)) (ltb (least sets x) h || (eqb (least sets x) h && has x (take j xs))) (sym (a.each (get_or xs (j + 1) 0) x node) ∙ i) in
-    let at : parent sets x ≡ Some (get_or xs (j + 1) 0) = number-is (parent sets x) (get_or xs (j + 1) 0) (and_parts (ltb x (length sets)) (is_number (parent sets x) (get_or xs (j + 1) 0)) both.0).1 in
+    let both = and_parts (ltb x (length sets) && equals_number (parent sets x) (get_or xs (j + 1) 0)) (ltb (least sets x) h || (eqb (least sets x) h && has x (take j xs))) (sym (a.each (get_or xs (j + 1) 0) x node) ∙ i) in
+    let at : parent sets x ≡ Some (get_or xs (j + 1) 0) = number-is (parent sets x) (get_or xs (j + 1) 0) (and_parts (ltb x (length sets)) (equals_number (parent sets x) (get_or xs (j + 1) 0)) both.0).1 in
     ⊎_elim (λ less. ltb-true (least sets x) h less)
     (λ seen.
     let p = place_from_IsIn (take j xs) x 0 (and_parts (eqb (least sets x) h) (has x (take j xs)) seen).1 in
@@ -153,7 +153,7 @@ earlier sets lists h j x xs l c lt a node i =
     shorter (x ∷ xs) (suc j) zero lt = omega arith
     shorter (x ∷ xs) (suc j) (suc p) lt = let less = shorter xs j p (omega arith) in omega arith
 
-pub one-listed : (sets lists new : List (List ℕ)) (h j : ℕ) (xs : List ℕ) → IsLaminar sets → IsChain sets h xs → j + 1 < length xs → least sets (get_or xs j 0) ≡ h → AreListed sets h (take j xs) lists
+pub one-listed : (sets lists new : List (List ℕ)) (h j : ℕ) (xs : List ℕ) → IsLaminar sets → IsOrderedChain sets h xs → j + 1 < length xs → least sets (get_or xs j 0) ≡ h → AreListed sets h (take j xs) lists
     → new ≡ set lists (get_or xs (j + 1) 0) (get_or lists (get_or xs (j + 1) 0) [] ++ get_or xs j 0 ∷ []) → AreListed sets h (take (j + 1) xs) new
 one-listed sets lists new h j xs l c lt first a is =
     let node : get_or xs (j + 1) 0 < length sets = (chain-holds sets h (get_or xs (j + 1) 0) xs c (IsIn-get_or xs (j + 1) 0 lt)).node in
@@ -199,10 +199,10 @@ in-take (x ∷ xs) zero p less lt = absurd (omega arith)
 in-take (x ∷ xs) (suc j) zero less lt = IsIn-here x (take j xs)
 in-take (x ∷ xs) (suc j) (suc p) less lt = IsIn-later (get_or xs p 0) x (take j xs) (in-take xs j p (omega arith) (omega arith))
 
-all-seen : (sets : List (List ℕ)) (h j n k : ℕ) (xs : List ℕ) → IsLaminar sets → AreFilled sets → IsChain sets h xs → length xs ≤ j + 1 → (ltb k (length sets) && is_number (parent sets k) n) ≡ true
+all-seen : (sets : List (List ℕ)) (h j n k : ℕ) (xs : List ℕ) → IsLaminar sets → AreFilled sets → IsOrderedChain sets h xs → length xs ≤ j + 1 → (ltb k (length sets) && equals_number (parent sets k) n) ≡ true
     → (ltb (least sets k) h || (eqb (least sets k) h && has k (take j xs))) ≡ (ltb (least sets k) (h + 1) || (eqb (least sets k) (h + 1) && has k []))
 all-seen sets h j n k xs l f c le child =
-    let both = and_parts (ltb k (length sets)) (is_number (parent sets k) n) child in
+    let both = and_parts (ltb k (length sets)) (equals_number (parent sets k) n) child in
     let node : k < length sets = ltb-true k (length sets) both.0 in
     ⊎_elim
     (λ (same : least sets k ≡ h).
@@ -217,14 +217,14 @@ all-seen sets h j n k xs l f c le child =
     (cases_order (least sets k) h)
 
 -- all nodes of the chain but the outermost were seen
-pub chain-listed : (sets lists : List (List ℕ)) (h j : ℕ) (xs : List ℕ) → IsLaminar sets → AreFilled sets → IsChain sets h xs → length xs ≤ j + 1 → AreListed sets h (take j xs) lists → AreListed sets (h + 1) [] lists
+pub chain-listed : (sets lists : List (List ℕ)) (h j : ℕ) (xs : List ℕ) → IsLaminar sets → AreFilled sets → IsOrderedChain sets h xs → length xs ≤ j + 1 → AreListed sets h (take j xs) lists → AreListed sets (h + 1) [] lists
 chain-listed sets lists h j xs l f c le a = record {
   lengths = a.lengths;
   ordered = a.ordered;
   each = λ n k less. a.each n k less ∙ ⊎_elim
-      (λ (child : (ltb k (length sets) && is_number (parent sets k) n) ≡ true). rw child (all-seen sets h j n k xs l f c le child))
-      (λ (none : (ltb k (length sets) && is_number (parent sets k) n) ≡ false). rw none refl)
-      (cases_Bool (ltb k (length sets) && is_number (parent sets k) n));
+      (λ (child : (ltb k (length sets) && equals_number (parent sets k) n) ≡ true). rw child (all-seen sets h j n k xs l f c le child))
+      (λ (none : (ltb k (length sets) && equals_number (parent sets k) n) ≡ false). rw none refl)
+      (cases_Bool (ltb k (length sets) && equals_number (parent sets k) n));
 }
 
 pub record IsChild (sets : List (List ℕ)) (n k : ℕ) : Type 0 where
@@ -256,25 +256,25 @@ child-order sets l f n = record {
 children-are : (sets lists : List (List ℕ)) (h n : ℕ) → IsLaminar sets → AreFilled sets → ((k : ℕ) → k < length sets → least sets k < h) → AreListed sets h [] lists → n < length sets → get_or lists n [] ≡ children sets n
 unfolding children
 children-are sets lists h n l f few a lt =
-    let found : List ℕ = filter (λ k. is_number (parent sets k) n) (below (length sets)) in
-    let there : (k : ℕ) → has k found ≡ (ltb k (length sets) && is_number (parent sets k) n) = λ k. has-below (length sets) k (λ k. is_number (parent sets k) n) in
+    let found : List ℕ = filter (λ k. equals_number (parent sets k) n) (below (length sets)) in
+    let there : (k : ℕ) → has k found ≡ (ltb k (length sets) && equals_number (parent sets k) n) = λ k. has-below (length sets) k (λ k. equals_number (parent sets k) n) in
     let child : (k : ℕ) → IsIn k found → IsChild sets n k = λ k i.
-    let both = and_parts (ltb k (length sets)) (is_number (parent sets k) n) (sym (there k) ∙ i) in
+    let both = and_parts (ltb k (length sets)) (equals_number (parent sets k) n) (sym (there k) ∙ i) in
     record { node = ltb-true k (length sets) both.0; up = number-is (parent sets k) n both.1 }
     in
     same_ordered (by_least sets) (by_least-asymmetric sets) (get_or lists n []) (in_order (by_least sets) found) (a.ordered n lt)
-    (in_order-ordered (IsChild sets n) (by_least sets) (child-order sets l f n) found (IsSet-filter (λ k. is_number (parent sets k) n) (below (length sets)) (IsSet-all_below (length sets) (λ j. true))) child)
+    (in_order-ordered (IsChild sets n) (by_least sets) (child-order sets l f n) found (IsSet-filter (λ k. equals_number (parent sets k) n) (below (length sets)) (IsSet-all_below (length sets) (λ j. true))) child)
     (λ k. a.each n k lt ∙ ⊎_elim
-    (λ (is : (ltb k (length sets) && is_number (parent sets k) n) ≡ true).
-    let node : k < length sets = ltb-true k (length sets) (and_parts (ltb k (length sets)) (is_number (parent sets k) n) is).0 in
+    (λ (is : (ltb k (length sets) && equals_number (parent sets k) n) ≡ true).
+    let node : k < length sets = ltb-true k (length sets) (and_parts (ltb k (length sets)) (equals_number (parent sets k) n) is).0 in
     rw (is, lt-ltb (least sets k) h (few k node)) (sym (has-in_order (by_least sets) found k ∙ there k ∙ is)))
-    (λ (none : (ltb k (length sets) && is_number (parent sets k) n) ≡ false). rw none (sym (has-in_order (by_least sets) found k ∙ there k ∙ none)))
-    (cases_Bool (ltb k (length sets) && is_number (parent sets k) n)))
+    (λ (none : (ltb k (length sets) && equals_number (parent sets k) n) ≡ false). rw none (sym (has-in_order (by_least sets) found k ∙ there k ∙ none)))
+    (cases_Bool (ltb k (length sets) && equals_number (parent sets k) n)))
 
-pub all-listed : (t : TreeOf) (lists : List (List ℕ)) (h : ℕ) → IsLaminar (sets_of t) → AreFilled (sets_of t) → ((k : ℕ) → k < length (sets_of t) → least (sets_of t) k < h) → AreListed (sets_of t) h [] lists → AreChildren t lists
+pub all-listed : (t : TreeOf) (lists : List (List ℕ)) (h : ℕ) → IsLaminar (sets_of_tree t) → AreFilled (sets_of_tree t) → ((k : ℕ) → k < length (sets_of_tree t) → least (sets_of_tree t) k < h) → AreListed (sets_of_tree t) h [] lists → AreChildren t lists
 all-listed t lists h l f few a = record {
   lengths = a.lengths;
-  each = λ n lt. children-are (sets_of t) lists h n l f few a lt;
+  each = λ n lt. children-are (sets_of_tree t) lists h n l f few a lt;
 }
 
 -- ---- the steps of the loop over a chain
@@ -283,18 +283,18 @@ least-low : (S : List ℕ) (h : ℕ) → IsSet S → IsIn h S → slice_index S 
 least-low [] h p i = absurd (not_in_nil h i)
 least-low (x ∷ S) h p i = ⊎_elim (λ (same : h ≡ x). omega arith) (λ later. let less = IsSet-first x S p h later in omega arith) (IsIn-cases h x S i)
 
-pub pushed-at : (sets lists new : List (List ℕ)) (h j i : ℕ) (xs : List ℕ) → IsLaminar sets → IsChain sets h xs → i ≡ j + 1 → i < length xs → least sets (get_or xs j 0) ≡ h → AreListed sets h (take j xs) lists
+pub pushed-at : (sets lists new : List (List ℕ)) (h j i : ℕ) (xs : List ℕ) → IsLaminar sets → IsOrderedChain sets h xs → i ≡ j + 1 → i < length xs → least sets (get_or xs j 0) ≡ h → AreListed sets h (take j xs) lists
     → new ≡ set lists (get_or xs i 0) (get_or lists (get_or xs i 0) [] ++ get_or xs j 0 ∷ []) → AreListed sets h (take (i + 1 - 1) xs) new
 pushed-at sets lists new h j i xs l c e lt first a is =
     let place : i + 1 - 1 ≡ j + 1 = omega arith in
     rw place (one-listed sets lists new h j xs l c (omega arith) first a (rw e at is))
 
-pub skipped-at : (sets lists : List (List ℕ)) (h j i : ℕ) (xs : List ℕ) → IsLaminar sets → IsChain sets h xs → i ≡ j + 1 → i < length xs → (least sets (get_or xs j 0) ≡ h → ⊥) → AreListed sets h (take j xs) lists
+pub skipped-at : (sets lists : List (List ℕ)) (h j i : ℕ) (xs : List ℕ) → IsLaminar sets → IsOrderedChain sets h xs → i ≡ j + 1 → i < length xs → (least sets (get_or xs j 0) ≡ h → ⊥) → AreListed sets h (take j xs) lists
     → AreListed sets h (take (i + 1 - 1) xs) lists
 skipped-at sets lists h j i xs l c e lt apart a =
     let place : i + 1 - 1 ≡ j + 1 = omega arith in
     let holds = chain-holds sets h (get_or xs j 0) xs c (IsIn-get_or xs j 0 (omega arith)) in
     rw place (one-skipped sets lists h j xs l c (omega arith) (least-low (set_of sets (get_or xs j 0)) h (l.are_sets (get_or xs j 0)) holds.has_leaf) apart a)
 
-pub node-at : (sets : List (List ℕ)) (h i : ℕ) (xs : List ℕ) → IsChain sets h xs → i < length xs → get_or xs i 0 < length sets
+pub node-at : (sets : List (List ℕ)) (h i : ℕ) (xs : List ℕ) → IsOrderedChain sets h xs → i < length xs → get_or xs i 0 < length sets
 node-at sets h i xs c lt = (chain-holds sets h (get_or xs i 0) xs c (IsIn-get_or xs i 0 lt)).node

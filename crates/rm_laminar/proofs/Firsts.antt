@@ -5,7 +5,7 @@ use Rattle.rm_sets.specs.Sets.{IsIn}
 use Rattle.rm_sets.proofs.Sets.{IsIn-here}
 use Rattle.rm_sets.proofs.Members.{IsIn-get_or, not_in_nil}
 use Rattle.rm_market.specs.Tree.{set_of, least, tree_sets}
-use Rattle.rm_laminar.specs.Chains.{AreChains, AreGroups}
+use Rattle.rm_laminar.specs.Chains.{AreChains, AreHospitalGroups}
 use Rattle.rm_laminar.proofs.Laminar.{some-member}
 use Rattle.rm_laminar.proofs.Trees.{tree-length, set-hospital, set-group}
 
@@ -14,7 +14,7 @@ longer [] x i = absurd (not_in_nil x i)
 longer (y ∷ S) x i = omega arith
 
 -- it is one of the node's own
-pub least-there : (hospitals : ℕ) (groups chains : List (List ℕ)) (k : ℕ) → AreGroups hospitals groups → AreChains hospitals groups chains → k < length (tree_sets hospitals groups)
+pub least-there : (hospitals : ℕ) (groups chains : List (List ℕ)) (k : ℕ) → AreHospitalGroups hospitals groups → AreChains hospitals groups chains → k < length (tree_sets hospitals groups)
     → IsIn (least (tree_sets hospitals groups) k) (set_of (tree_sets hospitals groups) k) × (least (tree_sets hospitals groups) k < hospitals)
 least-there hospitals groups chains k gs c lt = ⊎_elim
     (λ (less : k < hospitals). rw (set-hospital hospitals groups k less) (IsIn-here k [], less))

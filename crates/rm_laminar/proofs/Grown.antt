@@ -11,7 +11,7 @@ use Rattle.rm_sets.proofs.Members.{not_in_nil}
 use Rattle.rm_sets.proofs.Sizes.{length_within, same_from_length}
 use Rattle.rm_market.specs.Board.{is_empty, crosses}
 use Rattle.rm_market.specs.Tree.{put, set_of, tree_sets, is_inside}
-use Rattle.rm_laminar.specs.Chains.{IsLaminar, IsChain, AreChains, AreGroups, AreChanged, is_larger}
+use Rattle.rm_laminar.specs.Chains.{IsLaminar, IsOrderedChain, AreChains, AreHospitalGroups, AreChanged, is_larger}
 use Rattle.rm_laminar.proofs.Order.{put-ordered, put-by, has-put, ordered-by}
 use Rattle.rm_laminar.proofs.Laminar.{Holds, nested, inside-order, inside-within, inside-before, inside-from, chain-holds}
 use Rattle.rm_laminar.proofs.Trees.{tree-length, tree-push, set-hospital, set-group, push-old, push-new, push-length, tree-are_sets}
@@ -71,7 +71,7 @@ and-false true = refl
 and-false false = refl
 
 -- a chain of a leaf that the set lacks
-chain-kept : (sets : List (List ℕ)) (B : List ℕ) (leaf : ℕ) (nodes : List ℕ) → has leaf B ≡ false → IsChain sets leaf nodes → IsChain (sets ++ B ∷ []) leaf nodes
+chain-kept : (sets : List (List ℕ)) (B : List ℕ) (leaf : ℕ) (nodes : List ℕ) → has leaf B ≡ false → IsOrderedChain sets leaf nodes → IsOrderedChain (sets ++ B ∷ []) leaf nodes
 chain-kept sets B leaf nodes none c = record {
   ordered = ordered-by (is_inside sets) (is_inside (sets ++ B ∷ [])) nodes
       (λ x y i j e. inside-old sets B x y (chain-holds sets leaf x nodes c i).node (chain-holds sets leaf y nodes c j).node ∙ e) c.ordered;
@@ -88,8 +88,8 @@ chain-kept sets B leaf nodes none c = record {
         (cases_order k (length sets))
 
 -- a chain of a leaf that it has
-chain-put : (sets : List (List ℕ)) (B : List ℕ) (leaf : ℕ) (nodes : List ℕ) → IsLaminar (sets ++ B ∷ []) → IsIn leaf B → IsChain sets leaf nodes
-    → IsChain (sets ++ B ∷ []) leaf (put (is_larger (length B) sets) (length sets) nodes)
+chain-put : (sets : List (List ℕ)) (B : List ℕ) (leaf : ℕ) (nodes : List ℕ) → IsLaminar (sets ++ B ∷ []) → IsIn leaf B → IsOrderedChain sets leaf nodes
+    → IsOrderedChain (sets ++ B ∷ []) leaf (put (is_larger (length B) sets) (length sets) nodes)
 chain-put sets B leaf nodes l i c =
     let same : put (is_larger (length B) sets) (length sets) nodes ≡ put (is_inside (sets ++ B ∷ [])) (length sets) nodes =
     put-by (is_larger (length B) sets) (is_inside (sets ++ B ∷ [])) (length sets) nodes (λ y j. larger-outside sets B leaf y l i (chain-holds sets leaf y nodes c j))
@@ -154,7 +154,7 @@ single-crosses h B = both (has h B) (not (is_empty (minus B (h ∷ []))))
     both true c = refl
     both false c = refl
 
-laminar-more : (hospitals : ℕ) (groups : List (List ℕ)) (group : List ℕ) → AreGroups hospitals groups → IsLaminar (tree_sets hospitals groups) → IsSetBelow hospitals group
+laminar-more : (hospitals : ℕ) (groups : List (List ℕ)) (group : List ℕ) → AreHospitalGroups hospitals groups → IsLaminar (tree_sets hospitals groups) → IsSetBelow hospitals group
     → position (λ earlier. crosses earlier group) groups ≡ None → IsLaminar (tree_sets hospitals (groups ++ group ∷ []))
 laminar-more hospitals groups group g l s apart =
     let sets = tree_sets hospitals groups in
@@ -178,7 +178,7 @@ laminar-more hospitals groups group g l s apart =
     }
 
 -- a group that crosses none, and doesn't go too deep
-pub chains-more : (hospitals : ℕ) (groups lists new : List (List ℕ)) (group : List ℕ) → AreGroups hospitals groups → AreChains hospitals groups lists → IsSetBelow hospitals group
+pub chains-more : (hospitals : ℕ) (groups lists new : List (List ℕ)) (group : List ℕ) → AreHospitalGroups hospitals groups → AreChains hospitals groups lists → IsSetBelow hospitals group
     → is_empty group ≡ false → position (λ earlier. crosses earlier group) groups ≡ None → list_any (λ h. nat_le 32 (length (get_or lists h []))) group ≡ false
     → AreChanged (put (is_larger (length group) (tree_sets hospitals groups)) (hospitals + length groups)) lists new group
     → AreChains hospitals (groups ++ group ∷ []) new

@@ -6,7 +6,7 @@ use Rattle.rm_sets.proofs.Sets.{IsIn-here, not_both, cases_has, has-filter, has-
 use Rattle.rm_sets.proofs.Members.{not_in_nil, IsIn-common, IsIn-from_minus, IsIn-minus, within_refl, within_trans}
 use Rattle.rm_market.specs.Board.{is_empty, crosses}
 use Rattle.rm_market.specs.Tree.{below, set_of, is_subset, is_inside, chain}
-use Rattle.rm_laminar.specs.Chains.{IsLaminar, IsChain}
+use Rattle.rm_laminar.specs.Chains.{IsLaminar, IsOrderedChain}
 use Rattle.rm_laminar.proofs.Order.{Asymmetric, IsOrderOn, same_ordered, has-in_order, in_order-ordered}
 
 -- ---- empty sets and subsets
@@ -111,12 +111,12 @@ inside-order sets l leaf = record {
 
 -- ---- chains
 
-pub chain-holds : (sets : List (List ℕ)) (leaf k : ℕ) (nodes : List ℕ) → IsChain sets leaf nodes → IsIn k nodes → Holds sets leaf k
+pub chain-holds : (sets : List (List ℕ)) (leaf k : ℕ) (nodes : List ℕ) → IsOrderedChain sets leaf nodes → IsIn k nodes → Holds sets leaf k
 chain-holds sets leaf k nodes c i =
     let both = and_parts (ltb k (length sets)) (has leaf (set_of sets k)) (sym (c.each k) ∙ i) in
     record { node = ltb-true k (length sets) both.0; has_leaf = both.1 }
 
-pub holds-chain : (sets : List (List ℕ)) (leaf k : ℕ) (nodes : List ℕ) → IsChain sets leaf nodes → Holds sets leaf k → IsIn k nodes
+pub holds-chain : (sets : List (List ℕ)) (leaf k : ℕ) (nodes : List ℕ) → IsOrderedChain sets leaf nodes → Holds sets leaf k → IsIn k nodes
 holds-chain sets leaf k nodes c h = c.each k ∙ and_from (ltb k (length sets)) (has leaf (set_of sets k)) (lt-ltb k (length sets) h.node) h.has_leaf
 
 pub has-below : (n k : ℕ) (p : ℕ → Bool) → has k (filter p (below n)) ≡ (ltb k n && p k)
@@ -126,7 +126,7 @@ has-below n k p = has-filter p (below n) k ∙ ap (λ (b : Bool). b && p k) (has
     and_true true = refl
     and_true false = refl
 
-pub chain-is : (sets : List (List ℕ)) → IsLaminar sets → (leaf : ℕ) → IsChain sets leaf (chain sets leaf)
+pub chain-is : (sets : List (List ℕ)) → IsLaminar sets → (leaf : ℕ) → IsOrderedChain sets leaf (chain sets leaf)
 unfolding chain
 chain-is sets l leaf =
     let there : (k : ℕ) → has k (filter (λ k. has leaf (set_of sets k)) (below (length sets))) ≡ (ltb k (length sets) && has leaf (set_of sets k)) = λ k. has-below (length sets) k (λ k. has leaf (set_of sets k)) in
@@ -137,7 +137,7 @@ chain-is sets l leaf =
       each = λ k. has-in_order (is_inside sets) (filter (λ k. has leaf (set_of sets k)) (below (length sets))) k ∙ there k;
     }
 
-pub chain-same : (sets : List (List ℕ)) → IsLaminar sets → (leaf : ℕ) (nodes : List ℕ) → IsChain sets leaf nodes → nodes ≡ chain sets leaf
+pub chain-same : (sets : List (List ℕ)) → IsLaminar sets → (leaf : ℕ) (nodes : List ℕ) → IsOrderedChain sets leaf nodes → nodes ≡ chain sets leaf
 chain-same sets l leaf nodes c =
     let d = chain-is sets l leaf in
     same_ordered (is_inside sets) (inside-asymmetric sets) nodes (chain sets leaf) c.ordered d.ordered (λ k. c.each k ∙ sym (d.each k))

@@ -13,7 +13,7 @@ use Rattle.rm_market.specs.Board.{is_empty, crosses}
 use Rattle.rm_market.specs.Tree.{set_of, tree_sets, put, crossing, group_checks, tree_fault}
 use Rattle.rm_market.specs.declared.TreeFault.{TreeFault}
 use Rattle.rm_market.specs.declared.TreeFault.TheVariants.{Empty, Crossing, Deep, NoMemory}
-use Rattle.rm_laminar.specs.Chains.{IsOrdered, Passes, HasChains, AreChains, AreGroups, AreChanged, is_larger}
+use Rattle.rm_laminar.specs.Chains.{IsOrdered, Passes, HasChains, AreChains, AreHospitalGroups, AreChanged, is_larger}
 use Rattle.rm_laminar.proofs.Laminar.{chain-holds}
 use Rattle.rm_laminar.proofs.Trees.{tree-length, set-hospital, tree-are_sets}
 use Rattle.rm_laminar.proofs.Counts.{one-count, count-push, deep-same}
@@ -143,7 +143,7 @@ take-short [] (suc b) = omega arith
 take-short (g ∷ groups) (suc b) = let le = take-short groups b in omega arith
 
 -- the first groups are groups
-pub first-groups : (hospitals : ℕ) (groups : List (List ℕ)) (b : ℕ) → AreGroups hospitals groups → AreGroups hospitals (take b groups)
+pub first-groups : (hospitals : ℕ) (groups : List (List ℕ)) (b : ℕ) → AreHospitalGroups hospitals groups → AreHospitalGroups hospitals (take b groups)
 first-groups hospitals groups b g =
     let le = take-length groups b in
     let short = take-short groups b in
@@ -196,7 +196,7 @@ passed groups group e =
     three-none (is_empty group) (list_any (λ h. nat_le 32 (count_by (has h) (groups ++ group ∷ []))) group) (position (λ earlier. crosses earlier group) groups)
     (λ a. crossing a (set_of groups a) (length groups) group) (Empty (length groups)) (Deep (length groups)) e
 
-pub one-read : (hospitals : ℕ) (groups lists new : List (List ℕ)) (b : ℕ) (group : List ℕ) → AreGroups hospitals groups → AreRead hospitals groups b lists → b < length groups → group ≡ get_or groups b []
+pub one-read : (hospitals : ℕ) (groups lists new : List (List ℕ)) (b : ℕ) (group : List ℕ) → AreHospitalGroups hospitals groups → AreRead hospitals groups b lists → b < length groups → group ≡ get_or groups b []
     → first_of (group_checks (take b groups) group) ≡ None
     → AreChanged (put (is_larger (length group) (tree_sets hospitals (take b groups))) (hospitals + length (take b groups))) lists new group
     → AreRead hospitals groups (b + 1) new

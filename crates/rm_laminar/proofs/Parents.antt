@@ -6,7 +6,7 @@ use Rattle.rm_sets.specs.Sets.{has, IsIn}
 use Rattle.rm_sets.proofs.Sets.{IsIn-later, IsIn-cases, same_tests, IsSet-filter, IsSet-all_below}
 use Rattle.rm_sets.proofs.Members.{IsIn-get_or}
 use Rattle.rm_market.specs.Tree.{below, is_inside, in_order, parent}
-use Rattle.rm_laminar.specs.Chains.{IsOrdered, IsLaminar, IsChain}
+use Rattle.rm_laminar.specs.Chains.{IsOrdered, IsLaminar, IsOrderedChain}
 use Rattle.rm_laminar.proofs.Order.{same_ordered, has-in_order, in_order-ordered}
 use Rattle.rm_laminar.proofs.Laminar.{Holds, inside-asymmetric, inside-order, inside-within, chain-holds, holds-chain, has-below}
 
@@ -42,7 +42,7 @@ get-drop xs zero = refl
 get-drop [] (suc i) = refl
 get-drop (x ∷ xs) (suc i) = get-drop xs i
 
-pub parent-next : (sets : List (List ℕ)) → IsLaminar sets → (leaf i k : ℕ) (nodes : List ℕ) → IsChain sets leaf nodes → i < length nodes → get_or nodes i 0 ≡ k → parent sets k ≡ slice_get nodes (i + 1)
+pub parent-next : (sets : List (List ℕ)) → IsLaminar sets → (leaf i k : ℕ) (nodes : List ℕ) → IsOrderedChain sets leaf nodes → i < length nodes → get_or nodes i 0 ≡ k → parent sets k ≡ slice_get nodes (i + 1)
 unfolding parent
 parent-next sets l leaf i k nodes c lt at =
     let s = splits (is_inside sets) nodes i c.ordered lt in

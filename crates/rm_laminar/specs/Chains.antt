@@ -2,6 +2,7 @@
 use Rattle.std.specs.Prelude.{◌≡◌, ◌+◌, ◌<◌, ◌≤◌, ◌&&◌, ℕ, Bool, true, nat_lt, List, [], ◌∷◌, length, map, if◌then◌else◌, count_by, get_or, Option, Some, None, Result, Ok, Err, IsFalse}
 use Rattle.std.specs.Global.{Vec}
 use Rattle.rm_sets.specs.Sets.{has, IsIn, IsSet, IsSetBelow}
+use Rattle.rm_base.specs.declared.codes.TheConstants.{MOST_HOSPITALS, MOST_GROUPS, MOST_DEPTH}
 use Rattle.rm_market.specs.Board.{is_empty, crosses}
 use Rattle.rm_market.specs.Tree.{set_of, is_inside, tree_sets}
 use Rattle.rm_market.specs.declared.TreeFault.{TreeFault}
@@ -18,7 +19,7 @@ pub record IsLaminar (sets : List (List ℕ)) : Type 0 where
   pub apart : (i j : ℕ) → i < j → j < length sets → IsFalse (crosses (set_of sets i) (set_of sets j))
 
 -- the nodes that have a leaf, innermost first
-pub record IsChain (sets : List (List ℕ)) (leaf : ℕ) (nodes : List ℕ) : Type 0 where
+pub record IsOrderedChain (sets : List (List ℕ)) (leaf : ℕ) (nodes : List ℕ) : Type 0 where
   pub ordered : IsOrdered (is_inside sets) nodes
   pub each : (k : ℕ) → has k nodes ≡ (nat_lt k (length sets) && has leaf (set_of sets k))
 
@@ -27,8 +28,8 @@ pub record AreChains (hospitals : ℕ) (groups lists : List (List ℕ)) : Type 0
   pub laminar : IsLaminar (tree_sets hospitals groups)
   pub filled : (g : ℕ) → g < length groups → IsFalse (is_empty (get_or groups g []))
   pub each_hospital : length lists ≡ hospitals
-  pub chains : (h : ℕ) → h < hospitals → IsChain (tree_sets hospitals groups) h (get_or lists h [])
-  pub shallow : (h : ℕ) → h < hospitals → length (get_or lists h []) ≤ 32
+  pub chains : (h : ℕ) → h < hospitals → IsOrderedChain (tree_sets hospitals groups) h (get_or lists h [])
+  pub shallow : (h : ℕ) → h < hospitals → length (get_or lists h []) ≤ MOST_DEPTH
   pub depths : (h : ℕ) → h < hospitals → length (get_or lists h []) ≡ count_by (has h) groups + 1
 
 -- the lists of vectors
@@ -36,9 +37,9 @@ abbrev pub lists_of : List (Vec ℕ) → List (List ℕ)
 lists_of vectors = map (λ v. v.items) vectors
 
 -- the groups of so many hospitals, each as a set
-pub record AreGroups (hospitals : ℕ) (groups : List (List ℕ)) : Type 0 where
-  pub few_hospitals : hospitals ≤ 10000
-  pub few_groups : length groups ≤ 5000
+pub record AreHospitalGroups (hospitals : ℕ) (groups : List (List ℕ)) : Type 0 where
+  pub few_hospitals : hospitals ≤ MOST_HOSPITALS
+  pub few_groups : length groups ≤ MOST_GROUPS
   pub sets : (g : ℕ) → g < length groups → IsSetBelow hospitals (get_or groups g [])
 
 -- each list that is asked for was changed

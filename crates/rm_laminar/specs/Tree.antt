@@ -1,10 +1,10 @@
 -- What a tree keeps, and what its calls answer.
 use Rattle.std.specs.Prelude.{◌≡◌, ◌+◌, ◌-◌, ◌<◌, ℕ, List, [], length, map, filter, get_or, Option, Some, None, Result, Ok, Err}
 use Rattle.rm_sets.specs.Sets.{has, all_below}
-use Rattle.rm_market.specs.Tree.{below, least, children, members, sets_of, TreeOf}
+use Rattle.rm_market.specs.Tree.{below, least, children, members, sets_of_tree, TreeOf}
 use Rattle.rm_market.specs.declared.TreeFault.{TreeFault}
 use Rattle.rm_market.specs.declared.TreeFault.TheVariants.{NoMemory}
-use Rattle.rm_laminar.specs.Chains.{AreChains, AreGroups}
+use Rattle.rm_laminar.specs.Chains.{AreChains, AreHospitalGroups}
 
 -- the groups of which chains tell: of each node past the hospitals, the hospitals that have it
 abbrev pub groups_in : ℕ → List (List ℕ) → List (List ℕ)
@@ -16,10 +16,10 @@ told nodes chains = record { hospitals = length chains; groups = groups_in nodes
 
 -- the chains and the least hospitals of the nodes are those of the tree
 pub record IsKept (t : TreeOf) (chains : List (List ℕ)) (firsts : List ℕ) : Type 0 where
-  pub groups : AreGroups t.hospitals t.groups
+  pub groups : AreHospitalGroups t.hospitals t.groups
   pub built : AreChains t.hospitals t.groups chains
   pub nodes : length firsts ≡ t.hospitals + length t.groups
-  pub firsts_are : (k : ℕ) → k < length firsts → get_or firsts k 0 ≡ least (sets_of t) k
+  pub firsts_are : (k : ℕ) → k < length firsts → get_or firsts k 0 ≡ least (sets_of_tree t) k
 
 -- the answer to groups with this first fault
 abbrev pub Builds : Option TreeFault → TreeOf → Result TreeOf TreeFault → Type 0
@@ -29,13 +29,13 @@ Builds first tree (Err fault) = first ≡ Some fault
 
 -- the children of each node
 pub record AreChildren (t : TreeOf) (lists : List (List ℕ)) : Type 0 where
-  pub lengths : length lists ≡ length (sets_of t)
-  pub each : (n : ℕ) → n < length (sets_of t) → get_or lists n [] ≡ children (sets_of t) n
+  pub lengths : length lists ≡ length (sets_of_tree t)
+  pub each : (n : ℕ) → n < length (sets_of_tree t) → get_or lists n [] ≡ children (sets_of_tree t) n
 
 -- the hospitals of each node, in the order of the walk
 pub record AreMembers (t : TreeOf) (lists : List (List ℕ)) : Type 0 where
-  pub lengths : length lists ≡ length (sets_of t)
-  pub each : (n : ℕ) → n < length (sets_of t) → get_or lists n [] ≡ members (sets_of t) t.hospitals n
+  pub lengths : length lists ≡ length (sets_of_tree t)
+  pub each : (n : ℕ) → n < length (sets_of_tree t) → get_or lists n [] ≡ members (sets_of_tree t) t.hospitals n
 
 -- of an order of the hospitals, those whose chain has the node, for each of so many nodes
 pub record AreFiltered (nodes : ℕ) (chains : List (List ℕ)) (order : List ℕ) (lists : List (List ℕ)) : Type 0 where

@@ -6,14 +6,12 @@ ghost use Rattle.rm_sets.specs.Sets.{has, IsSet, IsSetBelow, common, minus};
 ghost use Rattle.rm_base.specs.Checks.{first_of};
 ghost use Rattle.rm_market.specs.Board.{crosses};
 ghost use Rattle.rm_market.specs.Tree.{put, tree_sets, set_of, crossing, group_checks, tree_fault};
-ghost use Rattle.rm_laminar.specs.Chains.{lists_of, AreChains, AreGroups, AreChanged, is_larger, Passes, HasChains};
+ghost use Rattle.rm_laminar.specs.Chains.{lists_of, AreChains, AreHospitalGroups, AreChanged, is_larger, Passes, HasChains};
 
 use crate::lists::Lists;
+use rm_base::codes::{MOST_DEPTH, MOST_GROUPS};
 use rm_market::TreeFault;
 use std::alloc::{AllocError, Global};
-
-/// The greatest number of nodes that contain one hospital, its own included.
-const MOST_NODES: usize = 32;
 
 // Counts each group of a chain.
 fn count_chain(shared: &mut [u32], hospitals: u32, chain: &[u32])
@@ -32,7 +30,7 @@ fn count_chain(shared: &mut [u32], hospitals: u32, chain: &[u32])
 // Counts, for each earlier group, the members of a group that it has.
 fn count_shared(shared: &mut [u32], chains: &Lists, earlier: &[Vec<u32>], group: &[u32])
     requires chains { AreChains (length chains.now) (lists_of earlier.now) chains.now }
-    requires groups { AreGroups (length chains.now) (lists_of earlier.now) }
+    requires groups { AreHospitalGroups (length chains.now) (lists_of earlier.now) }
     requires group { IsSetBelow (length chains.now) group.now }
     requires len { length shared.old ≡ length earlier.now }
     requires none { (a : ℕ) → a < length earlier.now → slice_index shared.old a ≡ 0 }
@@ -52,7 +50,7 @@ fn shared_with(
     group: &[u32],
 ) -> Result<Vec<u32>, AllocError>
     requires chains { AreChains (length chains.now) (lists_of earlier.now) chains.now }
-    requires groups { AreGroups (length chains.now) (lists_of earlier.now) }
+    requires groups { AreHospitalGroups (length chains.now) (lists_of earlier.now) }
     requires group { IsSetBelow (length chains.now) group.now }
     ensures len { IfOk result (λ v. length v.items ≡ length earlier.now) }
     ensures counts { IfOk result (λ v. (a : ℕ) → a < length earlier.now → slice_index v.items a ≡ count_by (λ h. has h (get_or (lists_of earlier.now) a [])) group.now) }
@@ -79,7 +77,7 @@ fn is_crossing(shared: u32, a: &[u32], b: &[u32]) -> bool
 
 // The first earlier group that crosses a group.
 fn first_crossing(shared: &[u32], earlier: &[Vec<u32>], group: &[u32]) -> Option<u32>
-    requires few { length earlier.now ≤ 5_000 }
+    requires few { length earlier.now ≤ MOST_GROUPS }
     requires len { length shared.now ≡ length earlier.now }
     requires sets { (a : ℕ) → a < length earlier.now → IsSet (get_or (lists_of earlier.now) a []) }
     requires group { IsSet group.now }
@@ -142,10 +140,10 @@ fn crossing_of(a: u32, first: &[u32], b: u32, second: &[u32]) -> TreeFault
 // Whether a hospital of a group is in as many nodes as one may be in.
 fn is_deep(chains: &Lists, group: &[u32]) -> bool
     requires { (h : ℕ) → has h group.now ≡ true → h < length chains.now }
-    ensures { result ≡ list_any (λ h. nat_le 32 (length (get_or chains.now h []))) group.now }
+    ensures { result ≡ list_any (λ h. nat_le MOST_DEPTH (length (get_or chains.now h []))) group.now }
 {
     for i in 0..group.len() {
-        if chains.list(group[i]).len() >= MOST_NODES {
+        if chains.list(group[i]).len() >= MOST_DEPTH as usize {
             return true;
         }
     }
@@ -160,7 +158,7 @@ fn check_group(
     group: &[u32],
 ) -> Result<(), TreeFault>
     requires chains { AreChains (length chains.now) (lists_of earlier.now) chains.now }
-    requires groups { AreGroups (length chains.now) (lists_of earlier.now) }
+    requires groups { AreHospitalGroups (length chains.now) (lists_of earlier.now) }
     requires group { IsSetBelow (length chains.now) group.now }
     ensures { Passes (first_of (group_checks (lists_of earlier.now) group.now)) result }
 {
@@ -208,7 +206,7 @@ fn place_in(chain: &[u32], size: usize, hospitals: u32, groups: &[Vec<u32>]) -> 
 // Puts a group into the chains of its hospitals.
 fn insert_group(chains: &mut Lists, earlier: &[Vec<u32>], group: &[u32]) -> Result<(), AllocError>
     requires chains { AreChains (length chains.old) (lists_of earlier.now) chains.old }
-    requires groups { AreGroups (length chains.old) (lists_of earlier.now) }
+    requires groups { AreHospitalGroups (length chains.old) (lists_of earlier.now) }
     requires group { IsSetBelow (length chains.old) group.now }
     ensures { OnOk result (AreChanged (put (is_larger (length group.now) (tree_sets (length chains.old) (lists_of earlier.now))) (length chains.old + length earlier.now)) chains.old chains.new group.now) }
 {
@@ -235,7 +233,7 @@ fn own_chains(alloc: Global, hospitals: u32) -> Result<Lists, AllocError>
 
 /// The chain of nodes of each hospital, or the first fault of the groups.
 pub fn chains_of(alloc: Global, hospitals: u32, groups: &[Vec<u32>]) -> Result<Lists, TreeFault>
-    requires { AreGroups hospitals (lists_of groups.now) }
+    requires { AreHospitalGroups hospitals (lists_of groups.now) }
     ensures { HasChains (tree_fault (lists_of groups.now)) hospitals (lists_of groups.now) result }
 {
     let Ok(mut chains) = own_chains(alloc, hospitals) else {

@@ -2,7 +2,7 @@
 
 ghost use Rattle.std.specs.Prelude.{◌≡◌, ◌+◌, ◌<◌, ◌≤◌, ℕ, List, [], length, get_or, slice_index, IfOk};
 ghost use Rattle.rm_market.specs.Tree.{tree_sets, least};
-ghost use Rattle.rm_laminar.specs.Chains.{lists_of, AreChains, AreGroups};
+ghost use Rattle.rm_laminar.specs.Chains.{lists_of, AreChains, AreHospitalGroups};
 ghost use Rattle.rm_laminar.specs.Tree.{AreChildren};
 
 use crate::lists::Lists;
@@ -17,7 +17,7 @@ pub fn children_of(
     firsts: &[u32],
 ) -> Result<Lists, AllocError>
     requires chains { AreChains (length chains.now) (lists_of groups.now) chains.now }
-    requires groups { AreGroups (length chains.now) (lists_of groups.now) }
+    requires groups { AreHospitalGroups (length chains.now) (lists_of groups.now) }
     requires nodes { length firsts.now ≡ length chains.now + length groups.now }
     requires firsts { (k : ℕ) → k < length firsts.now → slice_index firsts.now k ≡ least (tree_sets (length chains.now) (lists_of groups.now)) k }
     ensures { IfOk result (λ l. AreChildren (record { hospitals = length chains.now; groups = lists_of groups.now }) l) }

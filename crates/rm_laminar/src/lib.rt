@@ -3,14 +3,15 @@
 
 ghost use Rattle.std.specs.Prelude.{◌≡◌, ◌+◌, ◌<◌, ◌≤◌, ℕ, List, [], ◌∷◌, ◌++◌, length, map, get_or, slice_index, All, IfOk, fold, max, position, slice_get, ◌==◌};
 ghost use Rattle.rm_sets.specs.Sets.{IsSetBelow};
-ghost use Rattle.rm_market.specs.Tree.{below, tree_fault, sets_of, chain, children, members, parent, depth};
-ghost use Rattle.rm_laminar.specs.Chains.{lists_of, AreChains, AreGroups};
+ghost use Rattle.rm_market.specs.Tree.{below, tree_fault, sets_of_tree, chain, children, members, parent, depth};
+ghost use Rattle.rm_laminar.specs.Chains.{lists_of, AreChains, AreHospitalGroups};
 ghost use Rattle.rm_laminar.specs.Tree.{IsKept, Builds};
 
 use crate::chains::chains_of;
 use crate::children::children_of;
 use crate::lists::Lists;
 use crate::walk::members_of;
+use rm_base::codes::{MOST_DEPTH, MOST_GROUPS, MOST_HOSPITALS};
 pub use rm_market::TreeFault;
 use std::alloc::{AllocError, Global};
 use std::marker::Model;
@@ -73,8 +74,8 @@ fn item(chain: &[u32], place: usize) -> Option<u32>
 
 // The greatest length of a chain.
 fn depth_of(chains: &Lists) -> u32
-    requires few { length chains.now ≤ 10_000 }
-    requires shallow { (h : ℕ) → h < length chains.now → length (get_or chains.now h []) ≤ 32 }
+    requires few { length chains.now ≤ MOST_HOSPITALS }
+    requires shallow { (h : ℕ) → h < length chains.now → length (get_or chains.now h []) ≤ MOST_DEPTH }
     ensures { result ≡ fold max 0 (map (λ h. length (get_or chains.now h [])) (below (length chains.now))) }
 {
     let mut depth = 0;
@@ -92,8 +93,8 @@ impl Tree {
     /// are the least ones in both, in a alone and in b alone. Else `Deep(b)` comes exactly where some hospital of b lies
     /// in 32 of the groups 0 to b.
     pub fn build(alloc: Global, hospitals: u32, groups: &[Vec<u32>]) -> Result<Tree, TreeFault>
-        requires few_hospitals { hospitals ≤ 10_000 }
-        requires few_groups { length groups.now ≤ 5_000 }
+        requires few_hospitals { hospitals ≤ MOST_HOSPITALS }
+        requires few_groups { length groups.now ≤ MOST_GROUPS }
         requires sets { All (λ g. IsSetBelow hospitals g.items) groups.now }
         ensures { Builds (tree_fault (lists_of groups.now)) (record { hospitals = hospitals; groups = lists_of groups.now }) result }
     {
@@ -117,7 +118,7 @@ impl Tree {
 
     /// The number of nodes.
     pub fn nodes(&self) -> u32
-        ensures { result ≡ length (sets_of self.now) }
+        ensures { result ≡ length (sets_of_tree self.now) }
     {
         self.firsts.len() as u32
     }
@@ -132,16 +133,16 @@ impl Tree {
     /// The hospitals of a node, each once, in the order of the tree's walk, which visits roots, and the children of a
     /// node, by their least hospital.
     pub fn members(&self, node: u32) -> &[u32]
-        requires { node < length (sets_of self.now) }
-        ensures { result.now ≡ members (sets_of self.now) self.now.hospitals node }
+        requires { node < length (sets_of_tree self.now) }
+        ensures { result.now ≡ members (sets_of_tree self.now) self.now.hospitals node }
     {
         self.members.list(node)
     }
 
     /// The nodes just inside a node, by their least hospital.
     pub fn children(&self, node: u32) -> &[u32]
-        requires { node < length (sets_of self.now) }
-        ensures { result.now ≡ children (sets_of self.now) node }
+        requires { node < length (sets_of_tree self.now) }
+        ensures { result.now ≡ children (sets_of_tree self.now) node }
     {
         self.children.list(node)
     }
@@ -149,15 +150,15 @@ impl Tree {
     /// The nodes that contain a hospital, innermost first.
     pub fn chain(&self, h: u32) -> &[u32]
         requires { h < self.now.hospitals }
-        ensures { result.now ≡ chain (sets_of self.now) h }
+        ensures { result.now ≡ chain (sets_of_tree self.now) h }
     {
         self.chains.list(h)
     }
 
     /// The node just outside a node. None exactly where no node is outside it.
     pub fn parent(&self, node: u32) -> Option<u32>
-        requires { node < length (sets_of self.now) }
-        ensures { result ≡ parent (sets_of self.now) node }
+        requires { node < length (sets_of_tree self.now) }
+        ensures { result ≡ parent (sets_of_tree self.now) node }
     {
         let chain = self.chains.list(self.firsts[node as usize]);
         match place_of(chain, node) {
@@ -168,7 +169,7 @@ impl Tree {
 
     /// The greatest number of nodes that contain one hospital, 0 without hospitals.
     pub fn depth(&self) -> u32
-        ensures { result ≡ depth (sets_of self.now) self.now.hospitals }
+        ensures { result ≡ depth (sets_of_tree self.now) self.now.hospitals }
     {
         depth_of(&self.chains)
     }

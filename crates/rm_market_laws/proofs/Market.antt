@@ -1,7 +1,5 @@
 -- The laws of lawful choices, for the best subsets on a market's board.
 use Rattle.std.proofs.Common.{◌≡◌, ℕ, ◌<◌, List, [], length, set, sym, subst, arith}
-use Rattle.rm_sets.specs.Sets.{IsSetBelow, with_one}
-use Rattle.rm_sets.proofs.Members.{IsSetBelow-with_one}
 use Rattle.rm_market.specs.Board.{contract_count}
 use Rattle.rm_market.specs.Best.{IsChoice, values_of, best_of}
 use Rattle.rm_market.specs.Stable.{Wishes, IsStable, IsOptimal, IsOnlyOptimal, Takes}
@@ -9,13 +7,14 @@ use Rattle.rm_market.specs.Machine.{offered_so_far, closing}
 use Rattle.rm_market.specs.Market.{Market, IsMarket, IsList, listed_contracts, wishes_of, Best, IsStableIn, IsOptimalIn, IsPlacementOf, replaced, solve}
 use Rattle.rm_market.specs.Laws.{after, RunsWell}
 use Rattle.rm_valuation_laws.proofs.Market.{market_board_laws}
-use Rattle.rm_valuation_laws.proofs.Best.{best_unique, choice_from_bests}
+use Rattle.rm_valuation_laws.proofs.Best.{choice_from_bests}
 use Rattle.rm_valuation_laws.proofs.BestOf.{board_best}
 use Rattle.rm_matching_laws.specs.Results.{RunsClose}
 use Rattle.rm_matching_laws.proofs.Runs.{IsSetBelow-offered}
 use Rattle.rm_matching_laws.proofs.EveryChoice.{lawful, every_choice, runs_close_of}
 use Rattle.rm_matching_laws.proofs.Rounds.{closing_closes}
 use Rattle.rm_market_laws.specs.Results.{ChoosesBest, HasPlacement, RunsWellIn, PlacesSameIn, IsTruthfulIn}
+use Rattle.rm_market_laws.proofs.BestSets as sets
 use Rattle.rm_market_laws.proofs.Wishes.{are_wishes, listed_long, IsListOf-contracts, wishes-replaced, IsMarket-replaced}
 
 -- ---- best subsets as a choice
@@ -24,39 +23,18 @@ module _ (m : Market) (ok : IsMarket m) (C : List ℕ → List ℕ) (best : Choo
   pub choice : IsChoice (contract_count m.board) C
   choice = choice_from_bests (contract_count m.board) (values_of m.board) C (market_board_laws (length m.lists) m.board ok.board) best
 
-  below : (X : List ℕ) → IsSetBelow (length (wishes_of m).owners) X → IsSetBelow (contract_count m.board) X
-  below X h = subst (λ n. IsSetBelow n X) (are_wishes m ok).contracts h
-
-  takes : (X S : List ℕ) → IsSetBelow (length (wishes_of m).owners) X → Best m X S → C X ≡ S
-  takes X S x s = best_unique (contract_count m.board) (values_of m.board) X (C X) S (below X x) (best X (below X x)) s
-
-  taken : (X S : List ℕ) → IsSetBelow (length (wishes_of m).owners) X → C X ≡ S → Best m X S
-  taken X S x e = subst (Best m X) e (best X (below X x))
-
-  -- ---- the same stable and optimal sets
+  -- the best subsets have the same stable and optimal sets
+  long : length (wishes_of m).owners ≡ contract_count m.board
+  long = (are_wishes m ok).contracts
 
   pub stable_takes : (S : List ℕ) → IsStableIn m S → IsStable (Takes C) (wishes_of m) S
-  stable_takes S s = record {
-    placement = s.placement;
-    kept = takes S S s.placement.set s.kept;
-    unblocked = λ x lt h. takes (with_one S x) S (IsSetBelow-with_one (length (wishes_of m).owners) S x s.placement.set lt) (s.unblocked x lt h);
-  }
-
-  pub stable_in : (S : List ℕ) → IsStable (Takes C) (wishes_of m) S → IsStableIn m S
-  stable_in S s = record {
-    placement = s.placement;
-    kept = taken S S s.placement.set s.kept;
-    unblocked = λ x lt h. taken (with_one S x) S (IsSetBelow-with_one (length (wishes_of m).owners) S x s.placement.set lt) (s.unblocked x lt h);
-  }
+  stable_takes S s = sets.stable_takes (contract_count m.board) (values_of m.board) (wishes_of m) long C best S s
 
   pub optimal_takes : (S : List ℕ) → IsOptimalIn m S → IsOptimal (Takes C) (wishes_of m) S
-  optimal_takes S o = record { stable = stable_takes S o.stable; best_for_all = λ T d t lt. o.best_for_all T d (stable_in T t) lt }
-
-  pub optimal_in : (S : List ℕ) → IsOptimal (Takes C) (wishes_of m) S → IsOptimalIn m S
-  optimal_in S o = record { stable = stable_in S o.stable; best_for_all = λ T d t lt. o.best_for_all T d (stable_takes T t) lt }
+  optimal_takes S o = sets.optimal_takes (contract_count m.board) (values_of m.board) (wishes_of m) long C best S o
 
   pub placement_in : (S : List ℕ) → IsOnlyOptimal (Takes C) (wishes_of m) S → IsPlacementOf m S
-  placement_in S o = record { optimal = optimal_in S o.optimal; only = λ T t. o.only T (optimal_takes T t) }
+  placement_in S o = sets.only_optimal_best (contract_count m.board) (values_of m.board) (wishes_of m) long C best S o
 
   -- ---- runs
 
@@ -67,7 +45,7 @@ module _ (m : Market) (ok : IsMarket m) (C : List ℕ → List ℕ) (best : Choo
   runs_well_in = record {
     held = λ ds.
         let w : Wishes = wishes_of m in
-        taken (offered_so_far w (after C w ds)) (after C w ds).held
+        sets.taken (contract_count m.board) (values_of m.board) w long C best (offered_so_far w (after C w ds)) (after C w ds).held
         (IsSetBelow-offered C w (lawful (contract_count m.board) C w choice (are_wishes m ok)) (after C w ds))
         (sym (runs.held ds));
     refused = λ ds x T i out t. runs.refused ds x T i out (stable_takes T t);
@@ -101,7 +79,7 @@ same_in m ok S T d s t =
 module _ (m : Market) (ok : IsMarket m) where
   replaced_optimal :
       (d : ℕ) (list T : List ℕ) → IsList m.board list → IsPlacementOf (replaced m d list) T →
-      IsOptimal (Takes (best_of (values_of m.board))) (record (wishes_of m) { listed = set (wishes_of m).listed d (listed_contracts m.board d list) }) T
+      IsOptimal (Takes (best_of (values_of m.board))) (record (wishes_of m) { listed = set (wishes_of m).listed d (listed_contracts m.board.ranks d list) }) T
   replaced_optimal d list T l t =
       let ok' : IsMarket (replaced m d list) = IsMarket-replaced m ok d list l in
       subst (λ w. IsOptimal (Takes (best_of (values_of m.board))) w T) (wishes-replaced m d list)
@@ -118,7 +96,7 @@ module _ (m : Market) (ok : IsMarket m) where
     exists = λ d list l. placement_exists (replaced m d list) (IsMarket-replaced m ok d list l);
     no_gain = λ d list S T lt l s t.
         (every_choice (contract_count m.board) (best_of (values_of m.board)) (wishes_of m) (choice m ok (best_of (values_of m.board)) (plain_best m ok)) (are_wishes m ok)).2
-        d (listed_contracts m.board d list) S T (low d lt) (IsListOf-contracts m ok d list l) (plain_optimal S s) (replaced_optimal d list T l t);
+        d (listed_contracts m.board.ranks d list) S T (low d lt) (IsListOf-contracts m ok d list l) (plain_optimal S s) (replaced_optimal d list T l t);
   }
 
 -- the plain program by turns ends in the placement

@@ -93,17 +93,17 @@ owners_below n h (rank ∷ ranks) a =
 -- ---- the wishes
 
 module _ (m : Market) (ok : IsMarket m) where
-  listed_is : (d : ℕ) → d < length m.lists → list_of (wishes_of m) d ≡ listed_contracts m.board d (get_or m.lists d [])
+  listed_is : (d : ℕ) → d < length m.lists → list_of (wishes_of m) d ≡ listed_contracts m.board.ranks d (get_or m.lists d [])
   listed_is d lt =
       let long : length (enumerate_from 0 m.lists) ≡ length m.lists = length-enumerate_from 0 m.lists in
-      get_or-map (λ e. listed_contracts m.board e.0 e.1) (enumerate_from 0 m.lists) d (0, []) [] (omega arith)
-      ∙ ap (λ e. listed_contracts m.board e.0 e.1) (get_or-enumerate_from 0 m.lists d (0, []) lt)
-      ∙ ap (λ k. listed_contracts m.board k (get_or m.lists d [])) (let z : 0 + d ≡ d = omega arith in z)
+      get_or-map (λ e. listed_contracts m.board.ranks e.0 e.1) (enumerate_from 0 m.lists) d (0, []) [] (omega arith)
+      ∙ ap (λ e. listed_contracts m.board.ranks e.0 e.1) (get_or-enumerate_from 0 m.lists d (0, []) lt)
+      ∙ ap (λ k. listed_contracts m.board.ranks k (get_or m.lists d [])) (let z : 0 + d ≡ d = omega arith in z)
 
   pub listed_long : length (wishes_of m).listed ≡ length m.lists
-  listed_long = length-map (enumerate_from 0 m.lists) (λ e. listed_contracts m.board e.0 e.1) ∙ length-enumerate_from 0 m.lists
+  listed_long = length-map (enumerate_from 0 m.lists) (λ e. listed_contracts m.board.ranks e.0 e.1) ∙ length-enumerate_from 0 m.lists
 
-  pub IsListOf-contracts : (d : ℕ) (list : List ℕ) → IsList m.board list → IsListOf (wishes_of m) d (listed_contracts m.board d list)
+  pub IsListOf-contracts : (d : ℕ) (list : List ℕ) → IsList m.board list → IsListOf (wishes_of m) d (listed_contracts m.board.ranks d list)
   IsListOf-contracts d list l = record {
     distinct = distinct_filter_map (contract_of m.board d) (λ h k x e f. sym (contract_pair m.board d h x e).2 ∙ (contract_pair m.board d k x f).2) list l.0;
     below = λ x i. let r = from_filter_map (contract_of m.board d) list x i in
@@ -141,11 +141,11 @@ set_listed f n (suc d) (x ∷ L) l =
     (set_listed f (n + 1) d L l ∙ ap (λ k. set (map (λ e. f e.0 e.1) (enumerate_from (n + 1) L)) d (f k l)) (let e : n + 1 + d ≡ n + suc d = omega arith in e))
 
 -- the wishes of a market with the list of d replaced
-pub wishes-replaced : (m : Market) (d : ℕ) (list : List ℕ) → wishes_of (replaced m d list) ≡ (record (wishes_of m) { listed = set (wishes_of m).listed d (listed_contracts m.board d list) })
+pub wishes-replaced : (m : Market) (d : ℕ) (list : List ℕ) → wishes_of (replaced m d list) ≡ (record (wishes_of m) { listed = set (wishes_of m).listed d (listed_contracts m.board.ranks d list) })
 wishes-replaced m d list =
     ap (λ (L : List (List ℕ)). record (wishes_of m) { listed = L })
-    (set_listed (listed_contracts m.board) 0 d m.lists list
-    ∙ ap (λ k. set (wishes_of m).listed d (listed_contracts m.board k list)) (let e : 0 + d ≡ d = omega arith in e))
+    (set_listed (listed_contracts m.board.ranks) 0 d m.lists list
+    ∙ ap (λ k. set (wishes_of m).listed d (listed_contracts m.board.ranks k list)) (let e : 0 + d ≡ d = omega arith in e))
 
 pub IsMarket-replaced : (m : Market) → IsMarket m → (d : ℕ) (list : List ℕ) → IsList m.board list → IsMarket (replaced m d list)
 IsMarket-replaced m ok d list l = record {

@@ -10,7 +10,7 @@ use Rattle.std.specs.List.{All, last_or}
 use Rattle.std.specs.Option.{option_map_or}
 use Rattle.rm_base.specs.Checks.{check, first_of, checks_from}
 use Rattle.rm_market.specs.Board.{int_sum}
-use Rattle.rm_market.specs.Steps.{most_steps, greatest_step, last_step, natural, run_steps, steps_of, is_outside, is_out_of_range, rises, run_checks, step_fault, AreSteps}
+use Rattle.rm_market.specs.Steps.{most_steps, greatest_step, last_step_of_run, natural, run_steps, steps_of, is_outside, is_out_of_range, rises, run_checks, step_fault, AreSteps}
 use Rattle.rm_market.specs.declared.Run.{Run}
 use Rattle.rm_market.specs.declared.StepFault.{StepFault}
 use Rattle.rm_steps.proofs.Falling.{Falls, Falls-append, falling, lower, all-steps, run-falls-or-single, length-below}
@@ -35,9 +35,9 @@ pub record Passed (before : List Run) (r : Run) : Type 0 where
   pub counted : pos 1 ≤ℤ r.count
   pub few : (int_sum (map (λ q. q.count) before) +ℤ r.count) ≤ℤ most_steps
   pub first : InRange r.value
-  pub last : InRange (last_step r)
+  pub last : InRange (last_step_of_run r)
   pub level : (r.count ≤ℤ pos 1) ⊎ (pos 0 ≤ℤ r.fall)
-  pub after : option_map_or (λ q. int_lt (last_step q) r.value) (last_or None before) false ≡ false
+  pub after : option_map_or (λ q. int_lt (last_step_of_run q) r.value) (last_or None before) false ≡ false
 
 and-false : (a b : Bool) → (a && b) ≡ false → (a ≡ false) ⊎ (b ≡ false)
 and-false true b e = inr e
@@ -53,16 +53,16 @@ level-of r e =
 pub passed-by : (before : List Run) (r : Run) → is_out_of_range before r ≡ false → rises before r ≡ false → Passed before r
 passed-by before r range falls =
     let sum : ℤ = int_sum (map (λ (q : Run). q.count) before) +ℤ r.count in
-    let a = or-false (((int_lt r.count (pos 1) || int_lt most_steps r.count) || int_lt most_steps sum) || is_outside r.value) (is_outside (last_step r)) range in
+    let a = or-false (((int_lt r.count (pos 1) || int_lt most_steps r.count) || int_lt most_steps sum) || is_outside r.value) (is_outside (last_step_of_run r)) range in
     let b = or-false ((int_lt r.count (pos 1) || int_lt most_steps r.count) || int_lt most_steps sum) (is_outside r.value) a.0 in
     let d = or-false (int_lt r.count (pos 1) || int_lt most_steps r.count) (int_lt most_steps sum) b.0 in
     let e = or-false (int_lt r.count (pos 1)) (int_lt most_steps r.count) d.0 in
-    let f = or-false (int_lt (pos 1) r.count && int_lt r.fall (pos 0)) (option_map_or (λ (q : Run). int_lt (last_step q) r.value) (last_or None before) false) falls in
+    let f = or-false (int_lt (pos 1) r.count && int_lt r.fall (pos 0)) (option_map_or (λ (q : Run). int_lt (last_step_of_run q) r.value) (last_or None before) false) falls in
     record {
       counted = not-less r.count (pos 1) e.0;
       few = not-less most_steps sum d.1;
       first = in-range r.value b.1;
-      last = in-range (last_step r) a.1;
+      last = in-range (last_step_of_run r) a.1;
       level = level-of r f.0;
       after = f.1;
     }
@@ -81,7 +81,7 @@ natural-of (negsuc n) h = absurd (omega (arith, ints))
 pub run-length : (r : Run) → length (run_steps r) ≡ natural r.count
 run-length r = rw length-map (length-below (natural r.count))
 
-last-at : (before : List Run) (r : Run) → Passed before r → last_step r ≡ r.value -ℤ (r.fall *ℤ pos (natural r.count - 1))
+last-at : (before : List Run) (r : Run) → Passed before r → last_step_of_run r ≡ r.value -ℤ (r.fall *ℤ pos (natural r.count - 1))
 last-at before r p =
     let n = natural-of r.count p.counted in
     let same : r.count -ℤ pos 1 ≡ pos (natural r.count - 1) = omega (arith, ints, n, p.counted) in
@@ -91,7 +91,7 @@ first-at : (v f : ℤ) → v -ℤ (f *ℤ pos 0) ≡ v
 first-at v f = rw *ℤ-zero (omega (arith, ints))
 
 -- each step of a run is at most the first and at least the last
-step-between : (before : List Run) (r : Run) (k : ℕ) → Passed before r → k < natural r.count → (last_step r ≤ℤ (r.value -ℤ (r.fall *ℤ pos k))) × ((r.value -ℤ (r.fall *ℤ pos k)) ≤ℤ r.value)
+step-between : (before : List Run) (r : Run) (k : ℕ) → Passed before r → k < natural r.count → (last_step_of_run r ≤ℤ (r.value -ℤ (r.fall *ℤ pos k))) × ((r.value -ℤ (r.fall *ℤ pos k)) ≤ℤ r.value)
 step-between before r k p lt =
     let n = natural-of r.count p.counted in
     elim p.level [
@@ -105,7 +105,7 @@ step-between before r k p lt =
           (rw (last-at before r p, one, none) (omega (arith, ints)), rw (none, first-at r.value r.fall) (omega (arith, ints)))
     ]
 
-run-between : (before : List Run) (r : Run) (P : ℤ → Type 0) → Passed before r → ((z : ℤ) → last_step r ≤ℤ z → z ≤ℤ r.value → P z) → All P (run_steps r)
+run-between : (before : List Run) (r : Run) (P : ℤ → Type 0) → Passed before r → ((z : ℤ) → last_step_of_run r ≤ℤ z → z ≤ℤ r.value → P z) → All P (run_steps r)
 run-between before r P p h = all-steps P r.value r.fall (natural r.count) (λ k lt.
     let b = step-between before r k p lt in h (r.value -ℤ (r.fall *ℤ pos k)) b.0 b.1)
 
@@ -113,7 +113,7 @@ run-between before r P p h = all-steps P r.value r.fall (natural r.count) (λ k 
 
 pub record Fall (before runs : List Run) : Type 0 where
   pub falls : Falls (steps_of runs)
-  pub below : (q : Run) → last_or None before ≡ Some q → All (λ y. y ≤ℤ last_step q) (steps_of runs)
+  pub below : (q : Run) → last_or None before ≡ Some q → All (λ y. y ≤ℤ last_step_of_run q) (steps_of runs)
   pub in_range : All InRange (steps_of runs)
   pub counted : All (λ r. pos 1 ≤ℤ r.count) runs
   pub few : int_sum (map (λ q. q.count) before) ≤ℤ most_steps → (int_sum (map (λ q. q.count) before) +ℤ int_sum (map (λ q. q.count) runs)) ≤ℤ most_steps
@@ -137,11 +137,11 @@ one-more before r rs p rest =
     let push = count-push before r in
     record {
       falls = Falls-append (run_steps r) (steps_of rs) (run-falls-or-single r.value r.fall (natural r.count) (level before r p)) rest.falls
-          (run-between before r (λ (x : ℤ). All (λ y. y ≤ℤ x) (steps_of rs)) p (λ z low high. All-weaker (λ (y : ℤ). y ≤ℤ last_step r) (λ (y : ℤ). y ≤ℤ z) (λ y h. omega (arith, ints, h, low)) (steps_of rs) below));
-      below = λ q is. let after = not-less (last_step q) r.value (rw is at p.after) in
-          All-append (λ (y : ℤ). y ≤ℤ last_step q) (run_steps r) (steps_of rs)
-          (run-between before r (λ (y : ℤ). y ≤ℤ last_step q) p (λ z low high. omega (arith, ints, high, after)))
-          (All-weaker (λ (y : ℤ). y ≤ℤ last_step r) (λ (y : ℤ). y ≤ℤ last_step q) (λ y h. omega (arith, ints, h, after, least before r p)) (steps_of rs) below);
+          (run-between before r (λ (x : ℤ). All (λ y. y ≤ℤ x) (steps_of rs)) p (λ z low high. All-weaker (λ (y : ℤ). y ≤ℤ last_step_of_run r) (λ (y : ℤ). y ≤ℤ z) (λ y h. omega (arith, ints, h, low)) (steps_of rs) below));
+      below = λ q is. let after = not-less (last_step_of_run q) r.value (rw is at p.after) in
+          All-append (λ (y : ℤ). y ≤ℤ last_step_of_run q) (run_steps r) (steps_of rs)
+          (run-between before r (λ (y : ℤ). y ≤ℤ last_step_of_run q) p (λ z low high. omega (arith, ints, high, after)))
+          (All-weaker (λ (y : ℤ). y ≤ℤ last_step_of_run r) (λ (y : ℤ). y ≤ℤ last_step_of_run q) (λ y h. omega (arith, ints, h, after, least before r p)) (steps_of rs) below);
       in_range = All-append InRange (run_steps r) (steps_of rs)
           (run-between before r InRange p (λ z low high. (omega (arith, ints, p.last.0, low), omega (arith, ints, p.first.1, high)))) rest.in_range;
       counted = All-cons (λ (q : Run). pos 1 ≤ℤ q.count) r rs p.counted rest.counted;
@@ -151,14 +151,14 @@ one-more before r rs p rest =
     level : (before : List Run) (r : Run) → Passed before r → (natural r.count ≤ 1) ⊎ (pos 0 ≤ℤ r.fall)
     level before r p = elim p.level [ inl single ↦ inl (omega (arith, ints, natural-of r.count p.counted, single)) | inr low ↦ inr low ]
 
-    least : (before : List Run) (r : Run) → Passed before r → last_step r ≤ℤ r.value
+    least : (before : List Run) (r : Run) → Passed before r → last_step_of_run r ≤ℤ r.value
     least before r p = let b = step-between before r 0 p (omega (arith, ints, natural-of r.count p.counted, p.counted)) in omega (arith, ints, b.0, b.1)
 
 pub all-fall : (before runs : List Run) → first_of (checks_from run_checks before runs) ≡ None → Fall before runs
 unfolding steps_of checks_from Falls
 all-fall before [] e = record {
   falls = tt;
-  below = λ q is. All-nil (λ (y : ℤ). y ≤ℤ last_step q);
+  below = λ q is. All-nil (λ (y : ℤ). y ≤ℤ last_step_of_run q);
   in_range = All-nil InRange;
   counted = All-nil (λ (r : Run). pos 1 ≤ℤ r.count);
   few = λ h. omega (arith, ints, h);

@@ -6,7 +6,7 @@ ghost use Rattle.std.specs.List.{last_or};
 ghost use Rattle.std.specs.Option.{option_map_or};
 ghost use Rattle.rm_base.specs.Checks.{first_of};
 ghost use Rattle.rm_market.specs.Board.{int_sum, total};
-ghost use Rattle.rm_market.specs.Steps.{natural, step_fault, steps_of, run_steps, run_checks, is_outside, is_out_of_range, rises, last_step, AreSteps};
+ghost use Rattle.rm_market.specs.Steps.{natural, step_fault, steps_of, run_steps, run_checks, is_outside, is_out_of_range, rises, last_step_of_run, AreSteps};
 ghost use Rattle.rm_steps.specs.Runs.{Accepts, Passes, step_at, sum_below};
 
 use rm_base::codes::{GREATEST_CAP, GREATEST_STEP};
@@ -50,7 +50,7 @@ fn step_after(run: &Run, k: i128) -> i128
 
 // The last step of a run.
 fn last_step(run: &Run) -> i128
-    ensures { result ≡ last_step run.now }
+    ensures { result ≡ last_step_of_run run.now }
 {
     step_after(run, run.count as i128 - 1)
 }
@@ -76,7 +76,7 @@ fn is_out_of_range(before: &[Run], held: u32, run: &Run) -> bool
 
 // Whether the first step of a run is greater than the last one of the run before it.
 fn exceeds(before: &[Run], run: &Run) -> bool
-    ensures { result ≡ option_map_or (λ q. int_lt (last_step q) run.now.value) (last_or None before.now) false }
+    ensures { result ≡ option_map_or (λ q. int_lt (last_step_of_run q) run.now.value) (last_or None before.now) false }
 {
     match before.last() {
         Some(former) => last_step(former) < run.value as i128,

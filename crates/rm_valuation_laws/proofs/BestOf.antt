@@ -1,5 +1,5 @@
 -- The plain program that tries all subsets finds the best one.
-use Rattle.std.proofs.Common.{◌≡◌, ℕ, ◌<◌, List, [], ◌∷◌, ◌++◌, map, true, false, ◌⊎◌, refl, sym, ap, subst, inl, inr, ⊎_elim, arith}
+use Rattle.std.proofs.Common.{◌≡◌, ℕ, ◌<◌, List, [], ◌∷◌, ◌++◌, length, map, true, false, ◌⊎◌, refl, sym, ap, subst, inl, inr, ⊎_elim, arith}
 use Rattle.std.proofs.lemmas.Bool.{cond_both, cases_eq}
 use Rattle.std.specs.Prelude.{fold, if◌then◌else◌}
 use Rattle.rm_sets.specs.Sets.{IsIn, IsSet, IsSetBelow, IsWithin}
@@ -12,6 +12,8 @@ use Rattle.rm_valuation_laws.specs.Choice.{greedy}
 use Rattle.rm_valuation_laws.specs.Scores.{score}
 use Rattle.rm_valuation_laws.proofs.Best.{best_by_greedy, best_unique, choice_from_bests}
 use Rattle.rm_valuation_laws.proofs.GreedySteps.{none_beats_best}
+use Rattle.rm_valuation_laws.specs.Changes.{IsConcaveBoard}
+use Rattle.rm_valuation_laws.proofs.LaminarExchange.{board_laws}
 use Rattle.rm_valuation_laws.proofs.Market.{market_board_laws}
 
 -- ---- the subsets of a set
@@ -137,3 +139,9 @@ board_only doctors b X S ok x s = best_unique (contract_count b) (values_of b) X
 
 pub board_choice : (doctors : ℕ) (b : Board) → IsBoard doctors b → IsChoice (contract_count b) (best_of (values_of b))
 board_choice doctors b ok = choice_from_bests (contract_count b) (values_of b) (best_of (values_of b)) (market_board_laws doctors b ok) (λ X x. board_best doctors b X ok x)
+
+-- what the values of a concave board alone say
+pub concave_choice : (b : Board) → IsConcaveBoard b → length b.leaves ≡ contract_count b → IsChoice (contract_count b) (best_of (values_of b))
+concave_choice b concave leaves =
+    let laws : IsValuation (contract_count b) (values_of b) = subst (λ n. IsValuation n (values_of b)) leaves (board_laws b concave) in
+    choice_from_bests (contract_count b) (values_of b) (best_of (values_of b)) laws (λ X x. best_of_is (contract_count b) (values_of b) X laws x)

@@ -5,9 +5,10 @@ use Rattle.std.proofs.lemmas.List.{nil_from_length}
 use Rattle.std.proofs.lemmas.Bool.{cases_lt, and_parts, and_from, cond_both, not_from_false, not-true}
 use Rattle.rm_sets.specs.Sets.{has, IsIn, IsSetBelow, IsWithin, with_one, without}
 use Rattle.rm_sets.proofs.Sets.{not_both, IsIn-cases, IsIn-here, IsIn-later}
-use Rattle.rm_sets.proofs.Members.{IsSetBelow-with_one, IsSetBelow-without, with_one_within, not_in_nil, IsSetBelow-nil, within_nil}
+use Rattle.rm_sets.proofs.Members.{not_in_from, IsSetBelow-with_one, IsSetBelow-without, with_one_within, not_in_nil, IsSetBelow-nil, within_nil}
 use Rattle.rm_sets.proofs.Sizes.{length-with_one, length-without, same_from_length}
-use Rattle.rm_valuation_laws.specs.Choice.{IsFeasible, HasSizeExchange, IsStrict, IsTop, IsTopSoFar, IsUpper, IsBestAddition, HasNoGain, better_addition, best_addition, grow, greedy}
+use Rattle.rm_market.specs.Best.{SizeExchange}
+use Rattle.rm_valuation_laws.specs.Choice.{IsFeasible, IsStrict, IsTop, IsTopSoFar, IsUpper, IsBestAddition, HasNoGain, better_addition, best_addition, grow, greedy}
 use Rattle.rm_valuation_laws.proofs.Moves.{smaller_within}
 use Rattle.rm_valuation_laws.proofs.ChoiceLaws.{top_from_upper}
 
@@ -18,7 +19,7 @@ so_far_empty n feasible score X h = record {
   above = λ T fT w short. let same : T ≡ [] = nil_from_length T (omega arith) in let e = ap score same in omega (arith, ints);
 }
 
-pub so_far_step : (n : ℕ) (feasible : List ℕ → Bool) (score : List ℕ → ℤ) (X S : List ℕ) (x : ℕ) → HasSizeExchange n feasible score → IsSetBelow n X → IsTopSoFar n feasible score X S →
+pub so_far_step : (n : ℕ) (feasible : List ℕ → Bool) (score : List ℕ → ℤ) (X S : List ℕ) (x : ℕ) → SizeExchange n feasible score → IsSetBelow n X → IsTopSoFar n feasible score X S →
     IsBestAddition feasible score X S x → score S ≤ℤ score (with_one S x) → IsTopSoFar n feasible score X (with_one S x)
 so_far_step n feasible score X S x exchange sX top best gain = record {
   is_feasible = record { is_set = IsSetBelow-with_one n S x top.is_feasible.is_set (sX.below x best.member); passes = best.passes };
@@ -26,37 +27,37 @@ so_far_step n feasible score X S x exchange sX top best gain = record {
   above = λ T fT w short.
       ⊎_elim
       (λ longer.
-      let s = exchange S T top.is_feasible fT longer in
+      let s = exchange S T top.is_feasible.is_set fT.is_set top.is_feasible.passes fT.passes longer in
       let j = s.0 in
       let m = s.3 in
       let one = length-without T j fT.is_set.ascending s.1 in
       let more = length-with_one S x best.outside in
-      let low = top.above (without T j) (record { is_set = IsSetBelow-without n T j fT.is_set; passes = m.second }) (smaller_within T X j w) (omega arith) in
-      let high = best.most j (w j s.1) s.2 m.first in
-      let sum = m.no_loss in
+      let low = top.above (without T j) (record { is_set = IsSetBelow-without n T j fT.is_set; passes = m.1 }) (smaller_within T X j w) (omega arith) in
+      let high = best.most j (w j s.1) (not_in_from j S s.2) m.0 in
+      let sum = m.2 in
       omega (arith, ints))
       (λ le. let low = top.above T fT w le in omega (arith, ints))
       (cases_lt (length S) (length T));
 }
 
-stop_steps : (n : ℕ) (feasible : List ℕ → Bool) (score : List ℕ → ℤ) (X S : List ℕ) → HasSizeExchange n feasible score → IsTopSoFar n feasible score X S → HasNoGain feasible score X S →
+stop_steps : (n : ℕ) (feasible : List ℕ → Bool) (score : List ℕ → ℤ) (X S : List ℕ) → SizeExchange n feasible score → IsTopSoFar n feasible score X S → HasNoGain feasible score X S →
     (k : ℕ) (T : List ℕ) → length T ≤ k → IsFeasible n feasible T → IsWithin T X → score T ≤ℤ score S
 stop_steps n feasible score X S exchange top none zero T short fT w = top.above T fT w (omega arith)
 stop_steps n feasible score X S exchange top none (suc k) T short fT w =
     ⊎_elim
     (λ longer.
-    let s = exchange S T top.is_feasible fT longer in
+    let s = exchange S T top.is_feasible.is_set fT.is_set top.is_feasible.passes fT.passes longer in
     let j = s.0 in
     let m = s.3 in
     let one = length-without T j fT.is_set.ascending s.1 in
-    let low = stop_steps n feasible score X S exchange top none k (without T j) (omega arith) (record { is_set = IsSetBelow-without n T j fT.is_set; passes = m.second }) (smaller_within T X j w) in
-    let high = none j (w j s.1) s.2 m.first in
-    let sum = m.no_loss in
+    let low = stop_steps n feasible score X S exchange top none k (without T j) (omega arith) (record { is_set = IsSetBelow-without n T j fT.is_set; passes = m.1 }) (smaller_within T X j w) in
+    let high = none j (w j s.1) (not_in_from j S s.2) m.0 in
+    let sum = m.2 in
     omega (arith, ints))
     (λ le. top.above T fT w le)
     (cases_lt (length S) (length T))
 
-pub upper_from_stop : (n : ℕ) (feasible : List ℕ → Bool) (score : List ℕ → ℤ) (X S : List ℕ) → HasSizeExchange n feasible score → IsTopSoFar n feasible score X S → HasNoGain feasible score X S → IsUpper n feasible score X S
+pub upper_from_stop : (n : ℕ) (feasible : List ℕ → Bool) (score : List ℕ → ℤ) (X S : List ℕ) → SizeExchange n feasible score → IsTopSoFar n feasible score X S → HasNoGain feasible score X S → IsUpper n feasible score X S
 upper_from_stop n feasible score X S exchange top none T = stop_steps n feasible score X S exchange top none (length T) T (omega arith)
 
 -- ---- the function
@@ -140,10 +141,10 @@ pub record IsWinner (n : ℕ) (feasible : List ℕ → Bool) (score : List ℕ �
   pub within : IsWithin S X
   pub upper : IsUpper n feasible score X S
 
-winner_from_stop : (n : ℕ) (feasible : List ℕ → Bool) (score : List ℕ → ℤ) (X S : List ℕ) → HasSizeExchange n feasible score → IsTopSoFar n feasible score X S → HasNoGain feasible score X S → IsWinner n feasible score X S
+winner_from_stop : (n : ℕ) (feasible : List ℕ → Bool) (score : List ℕ → ℤ) (X S : List ℕ) → SizeExchange n feasible score → IsTopSoFar n feasible score X S → HasNoGain feasible score X S → IsWinner n feasible score X S
 winner_from_stop n feasible score X S exchange top none = record { is_feasible = top.is_feasible; within = top.within; upper = upper_from_stop n feasible score X S exchange top none }
 
-grow_is : (n : ℕ) (feasible : List ℕ → Bool) (score : List ℕ → ℤ) (X : List ℕ) → HasSizeExchange n feasible score → IsSetBelow n X →
+grow_is : (n : ℕ) (feasible : List ℕ → Bool) (score : List ℕ → ℤ) (X : List ℕ) → SizeExchange n feasible score → IsSetBelow n X →
     (k : ℕ) (S : List ℕ) → length X ≤ k + length S → IsTopSoFar n feasible score X S → IsWinner n feasible score X (grow feasible score X k S)
 grow_is n feasible score X exchange sX zero S enough top =
     let same : S ≡ X = same_from_length S X top.is_feasible.is_set.ascending sX.ascending top.within (omega arith) in
@@ -164,7 +165,7 @@ grow_is n feasible score X exchange sX (suc k) S enough top = at (grow_is n feas
         let le = int_lt-false (score S) (score (with_one S x)) t in
         winner_from_stop n feasible score X S exchange top (λ y inY outY h. let low = a.most y inY outY h in omega (arith, ints)))
 
-pub greedy_is : (n : ℕ) (feasible : List ℕ → Bool) (score : List ℕ → ℤ) → feasible [] ≡ true → HasSizeExchange n feasible score → IsStrict n feasible score →
+pub greedy_is : (n : ℕ) (feasible : List ℕ → Bool) (score : List ℕ → ℤ) → feasible [] ≡ true → SizeExchange n feasible score → IsStrict n feasible score →
     (X : List ℕ) → IsSetBelow n X → IsTop n feasible score X (greedy feasible score X)
 greedy_is n feasible score empty exchange strict X sX =
     let w = grow_is n feasible score X exchange sX (length X) [] (omega arith) (so_far_empty n feasible score X empty) in

@@ -82,7 +82,7 @@ pub feasible_from_caps : (b : Board) (S : List ℕ) → All (λ n. count b n.lea
 unfolding is_feasible
 feasible_from_caps b S all = list_all-from_AllPass (λ n. nat_le (count b n.leaves S) (cap_of n)) b.nodes (λ k d lt. le-leb (count b (get_or b.nodes k d).leaves S) (length (get_or b.nodes k d).steps) (all k d lt))
 
-no_loss_from_nodes : (b : Board) (S T S2 T2 : List ℕ) → IsConcaveBoard b → is_feasible b S ≡ true → is_feasible b T ≡ true → ((k : ℕ) → k < length b.nodes → NodeMove b S T S2 T2 (node_at b k)) → NoLoss (values_of b) S T S2 T2
+no_loss_from_nodes : (b : Board) (S T S2 T2 : List ℕ) → IsConcaveBoard b → is_feasible b S ≡ true → is_feasible b T ≡ true → ((k : ℕ) → k < length b.nodes → NodeMove b S T S2 T2 (node_at b k)) → NoLoss (is_feasible b) (worth b) S T S2 T2
 unfolding worth
 no_loss_from_nodes b S T S2 T2 ok fS fT move =
     let moves = λ (k : ℕ) (lt : k < length b.nodes). move k lt (ok.concave k no_node lt) (caps_from_feasible b S fS k no_node lt) (caps_from_feasible b T fT k no_node lt) in (
@@ -101,7 +101,7 @@ both_all p x = and_true (p x)
     and_true true = refl
     and_true false = refl
 
-pub board_size_exchange : (b : Board) → IsConcaveBoard b → SizeExchange (length b.leaves) (values_of b)
+pub board_size_exchange : (b : Board) → IsConcaveBoard b → SizeExchange (length b.leaves) (is_feasible b) (worth b)
 board_size_exchange b ok S T sS sT fS fT less =
     let aS = count_all S in
     let aT = count_all T in
@@ -175,7 +175,7 @@ not_short b S T i k h t =
 -- where a is the least short node, j is one of its contracts, and each node with j and without i has more of T
 swap_from_least : (b : Board) (S T : List ℕ) (i : ℕ) → IsConcaveBoard b → IsSet S → IsSet T → is_feasible b S ≡ true → is_feasible b T ≡ true → IsIn i S → has i T ≡ false →
     (a : ℕ) → a < length b.nodes → is_short b S T i a ≡ true → ((k : ℕ) → k < length b.nodes → is_short b S T i k ≡ true → IsInside (test_at b a) (test_at b k)) →
-    (j : ℕ) × IsIn j T × (has j S ≡ false) × NoLoss (values_of b) S T (with_one (without S i) j) (with_one (without T j) i)
+    (j : ℕ) × IsIn j T × (has j S ≡ false) × NoLoss (is_feasible b) (worth b) S T (with_one (without S i) j) (with_one (without T j) i)
 swap_from_least b S T i ok sS sT fS fT hi outi a la short least =
     let parts = and_parts (test_at b a i) (nat_lt (count_by (test_at b a) (without S i)) (count_by (test_at b a) T)) short in
     let less = ltb-true (count_by (test_at b a) (without S i)) (count_by (test_at b a) T) parts.1 in
@@ -210,7 +210,7 @@ swap_from_least b S T i ok sS sT fS fT hi outi a la short least =
         let eT = count_same (both (test_at b k) (test_at b a)) (test_at b k) T (inside_both (test_at b k) (test_at b a) w) in
         omega arith
 
-pub board_exchange : (b : Board) → IsConcaveBoard b → Exchange (length b.leaves) (values_of b)
+pub board_exchange : (b : Board) → IsConcaveBoard b → Exchange (length b.leaves) (is_feasible b) (worth b)
 board_exchange b ok S T i sS sT fS fT hi noti =
     let outi = not_in_from i T noti in
     ⊎_elim

@@ -6,8 +6,8 @@ use Rattle.rm_sets.specs.Sets.{has, IsIn, with_one}
 use Rattle.rm_sets.proofs.Sets.{not_both, IsIn-cases}
 use Rattle.rm_sets.proofs.Members.{IsIn-with_one_new, not_in_from}
 use Rattle.rm_valuation_laws.specs.Choice.{IsBestAddition}
-use Rattle.rm_market.specs.Best.{Values, swapped}
-use Rattle.rm_valuation_laws.specs.Scores.{leads, score_from, score, place, IsWorthiest}
+use Rattle.rm_market.specs.Best.{Values, swapped, wins_tie}
+use Rattle.rm_valuation_laws.specs.Scores.{score_from, score, place, IsWorthiest}
 use Rattle.rm_valuation_laws.proofs.Moves.{with_other, swapped_new, swapped_old, swapped_other, apart}
 use Rattle.rm_valuation_laws.proofs.Score.{cases_int, stays_above, leads_skip, leads_first, compare}
 
@@ -19,7 +19,7 @@ place_later w x ties ne = ap (λ b. cond (not b) (1 + place ties x) 0) (ne_eqb w
 
 -- S and T differ at x, which S has, and at y, which T has
 pub leads_two : (ties S T : List ℕ) (x y : ℕ) → IsIn x S → has x T ≡ false → has y S ≡ false → IsIn y T → ((w : ℕ) → (w ≡ x → ⊥) → (w ≡ y → ⊥) → has w S ≡ has w T) →
-    leads ties S T ≡ nat_lt (place ties x) (place ties y)
+    wins_tie ties S T ≡ nat_lt (place ties x) (place ties y)
 leads_two [] S T x y xS xT yS yT same = sym (le-ltb 0 0 (omega arith))
 leads_two (w ∷ ties) S T x y xS xT yS yT same =
     let ne : x ≡ y → ⊥ = apart S x y xS yS in
@@ -49,7 +49,7 @@ leads_two (w ∷ ties) S T x y xS xT yS yT same =
         (cases_Bool (nat_lt a b))
 
 -- T is S with x
-pub leads_one : (ties S : List ℕ) (x : ℕ) → has x S ≡ false → IsIn x ties → leads ties (with_one S x) S ≡ true
+pub leads_one : (ties S : List ℕ) (x : ℕ) → has x S ≡ false → IsIn x ties → wins_tie ties (with_one S x) S ≡ true
 leads_one [] S x out h = absurd (true≢false (sym h))
 leads_one (w ∷ ties) S x out h =
     ⊎_elim
@@ -62,12 +62,12 @@ leads_one (w ∷ ties) S x out h =
 pub score_by_worth : (v : Values) (S T : List ℕ) → v.worth T <ℤ v.worth S → score v T <ℤ score v S
 score_by_worth v S T lt = stays_above v.ties S T (v.worth S) (v.worth T) lt
 
-pub score_by_tie : (v : Values) (S T : List ℕ) → v.worth S ≡ v.worth T → leads v.ties S T ≡ true → score v T <ℤ score v S
+pub score_by_tie : (v : Values) (S T : List ℕ) → v.worth S ≡ v.worth T → wins_tie v.ties S T ≡ true → score v T <ℤ score v S
 score_by_tie v S T e lead =
     let at : score_from (v.worth S) v.ties T ≡ score v T = ap (λ a. score_from a v.ties T) e in
     ⊎_elim
     (λ more. subst (λ z. z <ℤ score v S) at more.1)
-    (λ rest. absurd (not_both (leads v.ties S T) lead (⊎_elim (λ less. less.0) (λ agree. agree.0) rest)))
+    (λ rest. absurd (not_both (wins_tie v.ties S T) lead (⊎_elim (λ less. less.0) (λ agree. agree.0) rest)))
     (compare (v.worth S) v.ties S T)
 
 -- an addition that doesn't lower the worth raises the score
@@ -82,13 +82,13 @@ score_of_addition v S x out inTies le =
     (cases_int (v.worth S) (v.worth (with_one S x)))
 
 -- of two additions of equal worth the one that stands first in tie order has the greater score
-pub leads_of_additions : (ties S : List ℕ) (x y : ℕ) → (x ≡ y → ⊥) → has x S ≡ false → has y S ≡ false → leads ties (with_one S x) (with_one S y) ≡ nat_lt (place ties x) (place ties y)
+pub leads_of_additions : (ties S : List ℕ) (x y : ℕ) → (x ≡ y → ⊥) → has x S ≡ false → has y S ≡ false → wins_tie ties (with_one S x) (with_one S y) ≡ nat_lt (place ties x) (place ties y)
 leads_of_additions ties S x y ne outx outy =
     leads_two ties (with_one S x) (with_one S y) x y (IsIn-with_one_new S x) (with_other S y x ne ∙ outx) (with_other S x y (λ e. ne (sym e)) ∙ outy) (IsIn-with_one_new S y)
     (λ w nx ny. with_other S x w nx ∙ sym (with_other S y w ny))
 
 -- of two swaps of equal worth, the one that gives up the later contract is the better
-pub leads_of_swaps : (ties S : List ℕ) (x z y : ℕ) → has x S ≡ false → IsIn z S → IsIn y S → (z ≡ y → ⊥) → leads ties (swapped S x z) (swapped S x y) ≡ nat_lt (place ties y) (place ties z)
+pub leads_of_swaps : (ties S : List ℕ) (x z y : ℕ) → has x S ≡ false → IsIn z S → IsIn y S → (z ≡ y → ⊥) → wins_tie ties (swapped S x z) (swapped S x y) ≡ nat_lt (place ties y) (place ties z)
 leads_of_swaps ties S x z y out inz iny ne =
     let nzx : z ≡ x → ⊥ = apart S z x inz out in
     let nyx : y ≡ x → ⊥ = apart S y x iny out in
@@ -100,7 +100,7 @@ leads_of_swaps ties S x z y out inz iny ne =
     (cases_eq w x))
 
 -- a swap of x for z at equal worth is the better exactly where x stands before z
-pub leads_of_swap : (ties S : List ℕ) (x z : ℕ) → has x S ≡ false → IsIn z S → leads ties (swapped S x z) S ≡ nat_lt (place ties x) (place ties z)
+pub leads_of_swap : (ties S : List ℕ) (x z : ℕ) → has x S ≡ false → IsIn z S → wins_tie ties (swapped S x z) S ≡ nat_lt (place ties x) (place ties z)
 leads_of_swap ties S x z out inz =
     let nzx : z ≡ x → ⊥ = apart S z x inz out in
     leads_two ties (swapped S x z) S x z (swapped_new S z x) out (swapped_old S z x nzx) inz (λ w nx nz. swapped_other S z x w nz nx)

@@ -22,3 +22,4 @@ pub mod Decision
 pub mod Order
 pub mod Market
 pub mod BestOf
+pub mod TieOrder

@@ -7,9 +7,9 @@ use Rattle.std.proofs.lemmas.Bool.Decides.{Decides-int_eq}
 use Rattle.rm_sets.specs.Sets.{has, IsIn, with_one, without}
 use Rattle.rm_sets.proofs.Sets.{cases_has, not_both, IsIn-here, IsIn-later, IsIn-cases, same_sets}
 use Rattle.rm_sets.proofs.Members.{IsIn-with_one_new, not_in_without, not_in_from}
-use Rattle.rm_valuation_laws.specs.Choice.{IsGoodMove, HasExchange, HasSizeExchange, IsStrict}
-use Rattle.rm_market.specs.Best.{Values, is_in_one, is_better, NoLoss, Exchange, SizeExchange, swapped}
-use Rattle.rm_valuation_laws.specs.Scores.{leads, bit, score_from, score}
+use Rattle.rm_valuation_laws.specs.Choice.{IsStrict}
+use Rattle.rm_market.specs.Best.{Values, is_in_one, is_better, NoLoss, Exchange, SizeExchange, swapped, wins_tie}
+use Rattle.rm_valuation_laws.specs.Scores.{bit, score_from, score}
 use Rattle.rm_valuation_laws.proofs.Moves.{with_other, without_other, swapped_new, swapped_old, swapped_other, apart}
 
 -- ---- how scores compare
@@ -29,9 +29,9 @@ stays_above (x ∷ ties) S T a b lt =
 -- from equal numbers: S leads and has more, or it doesn't and has less, or the sets agree
 abbrev pub Compared : ℤ → List ℕ → List ℕ → List ℕ → Type 0
 Compared a ties S T =
-    ((leads ties S T ≡ true) × (score_from a ties T <ℤ score_from a ties S))
-    ⊎ (((leads ties S T ≡ false) × (score_from a ties S <ℤ score_from a ties T))
-    ⊎ ((leads ties S T ≡ false) × ((x : ℕ) → IsIn x ties → has x S ≡ has x T)))
+    ((wins_tie ties S T ≡ true) × (score_from a ties T <ℤ score_from a ties S))
+    ⊎ (((wins_tie ties S T ≡ false) × (score_from a ties S <ℤ score_from a ties T))
+    ⊎ ((wins_tie ties S T ≡ false) × ((x : ℕ) → IsIn x ties → has x S ≡ has x T)))
 
 in_one_same : (x : ℕ) (S T : List ℕ) → has x S ≡ has x T → is_in_one x S T ≡ false
 in_one_same x S T e = rw e (same (has x T))
@@ -40,14 +40,14 @@ in_one_same x S T e = rw e (same (has x T))
     same true = refl
     same false = refl
 
-pub leads_skip : (x : ℕ) (ties S T : List ℕ) → has x S ≡ has x T → leads (x ∷ ties) S T ≡ leads ties S T
+pub leads_skip : (x : ℕ) (ties S T : List ℕ) → has x S ≡ has x T → wins_tie (x ∷ ties) S T ≡ wins_tie ties S T
 leads_skip x ties S T e = ap (λ b. option_map_or (λ y. has y S) (cond b (Some x) (find (λ y. is_in_one y S T) ties)) false) (in_one_same x S T e)
 
 in_one_first : (x : ℕ) (S T : List ℕ) (b : Bool) → has x S ≡ b → has x T ≡ not b → is_in_one x S T ≡ true
 in_one_first x S T true e f = rw (e, f) refl
 in_one_first x S T false e f = rw (e, f) refl
 
-pub leads_first : (x : ℕ) (ties S T : List ℕ) (b : Bool) → has x S ≡ b → has x T ≡ not b → leads (x ∷ ties) S T ≡ b
+pub leads_first : (x : ℕ) (ties S T : List ℕ) (b : Bool) → has x S ≡ b → has x T ≡ not b → wins_tie (x ∷ ties) S T ≡ b
 leads_first x ties S T b e f = ap (λ c. option_map_or (λ y. has y S) (cond c (Some x) (find (λ y. is_in_one y S T) ties)) false) (in_one_first x S T b e f) ∙ e
 
 compared_skip : (a : ℤ) (x : ℕ) (ties S T : List ℕ) → has x S ≡ has x T → Compared ((a +ℤ a) +ℤ bit (has x S)) ties S T → Compared a (x ∷ ties) S T
@@ -108,14 +108,14 @@ score_at v S T e = ap (λ a. score_from a v.ties T) e
 pub better_from_higher : (v : Values) (S T : List ℕ) → v.feasible S ≡ true → score v T <ℤ score v S → is_better v S T ≡ true
 unfolding is_better
 better_from_higher v S T fS lt =
-    and_from (v.feasible S) (not (v.feasible T) || int_lt (v.worth T) (v.worth S) || (int_eq (v.worth S) (v.worth T) && leads v.ties S T)) fS
+    and_from (v.feasible S) (not (v.feasible T) || int_lt (v.worth T) (v.worth S) || (int_eq (v.worth S) (v.worth T) && wins_tie v.ties S T)) fS
     (⊎_elim
     (λ less. absurd (let up = stays_above v.ties T S (v.worth T) (v.worth S) less in omega (arith, ints)))
     (λ rest. ⊎_elim
-    (λ e. or_right (not (v.feasible T) || int_lt (v.worth T) (v.worth S)) (int_eq (v.worth S) (v.worth T) && leads v.ties S T)
-    (and_from (int_eq (v.worth S) (v.worth T)) (leads v.ties S T) ((Decides-int_eq (v.worth S) (v.worth T)).1 e)
+    (λ e. or_right (not (v.feasible T) || int_lt (v.worth T) (v.worth S)) (int_eq (v.worth S) (v.worth T) && wins_tie v.ties S T)
+    (and_from (int_eq (v.worth S) (v.worth T)) (wins_tie v.ties S T) ((Decides-int_eq (v.worth S) (v.worth T)).1 e)
     (leads_from e (compare (v.worth S) v.ties S T))))
-    (λ more. or_left (not (v.feasible T) || int_lt (v.worth T) (v.worth S)) (int_eq (v.worth S) (v.worth T) && leads v.ties S T)
+    (λ more. or_left (not (v.feasible T) || int_lt (v.worth T) (v.worth S)) (int_eq (v.worth S) (v.worth T) && wins_tie v.ties S T)
     (or_right (not (v.feasible T)) (int_lt (v.worth T) (v.worth S)) (lt-int_lt (v.worth T) (v.worth S) more)))
     rest)
     (cases_int (v.worth S) (v.worth T)))
@@ -126,7 +126,7 @@ better_from_higher v S T fS lt =
         ap (λ b. score_from ((a +ℤ a) +ℤ bit b) ties S) (agree x (w x (IsIn-here x ties)))
         ∙ same_score agree ties (λ y h. w y (IsIn-later y x ties h)) ((a +ℤ a) +ℤ bit (has x T))
 
-    leads_from : v.worth S ≡ v.worth T → Compared (v.worth S) v.ties S T → leads v.ties S T ≡ true
+    leads_from : v.worth S ≡ v.worth T → Compared (v.worth S) v.ties S T → wins_tie v.ties S T ≡ true
     leads_from e c =
         let at = score_at v S T e in
         ⊎_elim
@@ -140,21 +140,21 @@ better_from_higher v S T fS lt =
 pub higher_from_better : (v : Values) (S T : List ℕ) → v.feasible T ≡ true → is_better v S T ≡ true → score v T <ℤ score v S
 unfolding is_better
 higher_from_better v S T fT h =
-    let parts = and_parts (v.feasible S) (not (v.feasible T) || int_lt (v.worth T) (v.worth S) || (int_eq (v.worth S) (v.worth T) && leads v.ties S T)) h in
+    let parts = and_parts (v.feasible S) (not (v.feasible T) || int_lt (v.worth T) (v.worth S) || (int_eq (v.worth S) (v.worth T) && wins_tie v.ties S T)) h in
     ⊎_elim
     (λ first. ⊎_elim
     (λ no_T. absurd (not_both (not (v.feasible T)) no_T (not_from_true (v.feasible T) fT)))
     (λ more. stays_above v.ties S T (v.worth S) (v.worth T) (int_lt-true (v.worth T) (v.worth S) more))
     (or_cases (not (v.feasible T)) (int_lt (v.worth T) (v.worth S)) first))
     (λ second.
-    let both = and_parts (int_eq (v.worth S) (v.worth T)) (leads v.ties S T) second in
+    let both = and_parts (int_eq (v.worth S) (v.worth T)) (wins_tie v.ties S T) second in
     let e : v.worth S ≡ v.worth T = (Decides-int_eq (v.worth S) (v.worth T)).0 both.0 in
     let at = score_at v S T e in
     ⊎_elim
     (λ more. subst (λ z. z <ℤ score v S) at more.1)
-    (λ rest. absurd (not_both (leads v.ties S T) both.1 (⊎_elim (λ less. less.0) (λ agree. agree.0) rest)))
+    (λ rest. absurd (not_both (wins_tie v.ties S T) both.1 (⊎_elim (λ less. less.0) (λ agree. agree.0) rest)))
     (compare (v.worth S) v.ties S T))
-    (or_cases (not (v.feasible T) || int_lt (v.worth T) (v.worth S)) (int_eq (v.worth S) (v.worth T) && leads v.ties S T) parts.1)
+    (or_cases (not (v.feasible T) || int_lt (v.worth T) (v.worth S)) (int_eq (v.worth S) (v.worth T) && wins_tie v.ties S T) parts.1)
 
 -- ---- and where one of the two is not feasible
 
@@ -240,27 +240,20 @@ together_swap S T i j hi outi hj outj x =
 
 -- ---- the exchanges for the score
 
-score_move : (v : Values) (S T S2 T2 : List ℕ) → SameTogether S T S2 T2 → NoLoss v S T S2 T2 → IsGoodMove v.feasible (score v) S T S2 T2
-score_move v S T S2 T2 same m = record {
-  first = m.0;
-  second = m.1;
-  no_loss = score_together S T S2 T2 same v.ties (v.worth S) (v.worth T) (v.worth S2) (v.worth T2) m.2;
-}
+score_move : (v : Values) (S T S2 T2 : List ℕ) → SameTogether S T S2 T2 → NoLoss v.feasible v.worth S T S2 T2 → NoLoss v.feasible (score v) S T S2 T2
+score_move v S T S2 T2 same m = (m.0, m.1, score_together S T S2 T2 same v.ties (v.worth S) (v.worth T) (v.worth S2) (v.worth T2) m.2)
 
-not_in : (x : ℕ) (S : List ℕ) → has x S ≡ false → IsIn x S → ⊥
-not_in x S out h = not_both (has x S) h out
-
-pub score_exchange : (n : ℕ) (v : Values) → Exchange n v → HasExchange n v.feasible (score v)
-score_exchange n v exchange S T i fS fT h out =
+pub score_exchange : (n : ℕ) (v : Values) → Exchange n v.feasible v.worth → Exchange n v.feasible (score v)
+score_exchange n v exchange S T i sS sT fS fT h out =
     ⊎_elim
-    (λ m. inl (score_move v S T (without S i) (with_one T i) (together_alone S T i h out) m))
+    (λ m. inl (score_move v S T (without S i) (with_one T i) (together_alone S T i h (not_in_from i T out)) m))
     (λ s.
     let outj = not_in_from s.0 S s.2 in
-    inr (s.0, s.1, outj, score_move v S T (with_one (without S i) s.0) (with_one (without T s.0) i) (together_swap S T i s.0 h out s.1 outj) s.3))
-    (exchange S T i fS.is_set fT.is_set fS.passes fT.passes h (not_in i T out))
+    inr (s.0, s.1, s.2, score_move v S T (with_one (without S i) s.0) (with_one (without T s.0) i) (together_swap S T i s.0 h (not_in_from i T out) s.1 outj) s.3))
+    (exchange S T i sS sT fS fT h out)
 
-pub score_size_exchange : (n : ℕ) (v : Values) → SizeExchange n v → HasSizeExchange n v.feasible (score v)
-score_size_exchange n v exchange S T fS fT less =
-    let s = exchange S T fS.is_set fT.is_set fS.passes fT.passes less in
+pub score_size_exchange : (n : ℕ) (v : Values) → SizeExchange n v.feasible v.worth → SizeExchange n v.feasible (score v)
+score_size_exchange n v exchange S T sS sT fS fT less =
+    let s = exchange S T sS sT fS fT less in
     let outj = not_in_from s.0 S s.2 in
-    (s.0, s.1, outj, score_move v S T (with_one S s.0) (without T s.0) (together_size S T s.0 s.1 outj) s.3)
+    (s.0, s.1, s.2, score_move v S T (with_one S s.0) (without T s.0) (together_size S T s.0 s.1 outj) s.3)

@@ -6,8 +6,8 @@ use Rattle.rm_sets.specs.Sets.{has, IsIn, IsWithin, with_one, without}
 use Rattle.rm_sets.proofs.Sets.{not_both, same_within}
 use Rattle.rm_sets.proofs.Search.{cases_within}
 use Rattle.rm_sets.proofs.Members.{IsIn-with_one_new, not_in_without, IsSetBelow-with_one, IsSetBelow-without, with_one_within}
-use Rattle.rm_valuation_laws.specs.Choice.{IsFeasible, HasExchange, IsStuck, IsUpper}
-use Rattle.rm_market.specs.Best.{swapped}
+use Rattle.rm_valuation_laws.specs.Choice.{IsFeasible, IsStuck, IsUpper}
+use Rattle.rm_market.specs.Best.{swapped, Exchange}
 use Rattle.rm_valuation_laws.proofs.Moves.{with_other, without_other, swapped_new, swapped_old, swapped_other, apart, IsSetBelow-swapped, swapped_within, smaller_within}
 
 -- ---- at how many places two sets differ
@@ -98,7 +98,7 @@ abbrev Closer : ℕ → (List ℕ → Bool) → (List ℕ → ℤ) → List ℕ 
 Closer n feasible score X S T = (U : List ℕ) → differ n S U < differ n S T → IsFeasible n feasible U → IsWithin U X → score U ≤ℤ score S
 
 -- T has an i that S lacks
-from_extra : (n : ℕ) (feasible : List ℕ → Bool) (score : List ℕ → ℤ) (X S T : List ℕ) → HasExchange n feasible score → IsStuck n feasible score X S →
+from_extra : (n : ℕ) (feasible : List ℕ → Bool) (score : List ℕ → ℤ) (X S T : List ℕ) → Exchange n feasible score → IsStuck n feasible score X S →
     Closer n feasible score X S T → IsFeasible n feasible T → IsWithin T X → (i : ℕ) → IsIn i T → has i S ≡ false → score T ≤ℤ score S
 from_extra n feasible score X S T exchange stuck closer fT w i h out =
     let differs : has i T ≡ has i S → ⊥ = λ e. not_both (has i T) h (e ∙ out) in
@@ -106,23 +106,23 @@ from_extra n feasible score X S T exchange stuck closer fT w i h out =
     ⊎_elim
     (λ m.
     let less = differ_less n S T (without T i) i (between_without S T i out) (not_in_without T i ∙ sym out) differs lt in
-    let low = closer (without T i) less (record { is_set = IsSetBelow-without n T i fT.is_set; passes = m.first }) (smaller_within T X i w) in
-    let high = stuck.add i (w i h) out m.second in
-    let sum = m.no_loss in
+    let low = closer (without T i) less (record { is_set = IsSetBelow-without n T i fT.is_set; passes = m.0 }) (smaller_within T X i w) in
+    let high = stuck.add i (w i h) out m.1 in
+    let sum = m.2 in
     omega (arith, ints))
     (λ s.
     let j = s.0 in
     let hj : IsIn j S = s.1 in
     let m = s.3 in
     let less = differ_less n S T (swapped T j i) i (between_swapped S T i j out hj) (swapped_old T i j (λ same. apart S j i hj out (sym same)) ∙ sym out) differs lt in
-    let low = closer (swapped T j i) less (record { is_set = IsSetBelow-swapped n T i j fT.is_set (stuck.is_feasible.is_set.below j hj); passes = m.first }) (swapped_within T X i j w (stuck.within j hj)) in
-    let high = stuck.swap i j (w i h) out hj m.second in
-    let sum = m.no_loss in
+    let low = closer (swapped T j i) less (record { is_set = IsSetBelow-swapped n T i j fT.is_set (stuck.is_feasible.is_set.below j hj); passes = m.0 }) (swapped_within T X i j w (stuck.within j hj)) in
+    let high = stuck.swap i j (w i h) out hj m.1 in
+    let sum = m.2 in
     omega (arith, ints))
-    (exchange T S i fT stuck.is_feasible h out)
+    (exchange T S i fT.is_set stuck.is_feasible.is_set fT.passes stuck.is_feasible.passes h (λ there. not_both (has i S) there out))
 
 -- T is a part of S, and S has an i that T lacks
-from_part : (n : ℕ) (feasible : List ℕ → Bool) (score : List ℕ → ℤ) (X S T : List ℕ) → HasExchange n feasible score → IsStuck n feasible score X S →
+from_part : (n : ℕ) (feasible : List ℕ → Bool) (score : List ℕ → ℤ) (X S T : List ℕ) → Exchange n feasible score → IsStuck n feasible score X S →
     Closer n feasible score X S T → IsFeasible n feasible T → IsWithin T X → IsWithin T S → (i : ℕ) → IsIn i S → has i T ≡ false → score T ≤ℤ score S
 from_part n feasible score X S T exchange stuck closer fT w part i h out =
     let differs : has i T ≡ has i S → ⊥ = λ e. not_both (has i T) (e ∙ h) out in
@@ -130,14 +130,14 @@ from_part n feasible score X S T exchange stuck closer fT w part i h out =
     ⊎_elim
     (λ m.
     let less = differ_less n S T (with_one T i) i (between_with_one S T i h) (IsIn-with_one_new T i ∙ sym h) differs lt in
-    let low = closer (with_one T i) less (record { is_set = IsSetBelow-with_one n T i fT.is_set lt; passes = m.second }) (with_one_within T X i w (stuck.within i h)) in
-    let high = stuck.remove i h m.first in
-    let sum = m.no_loss in
+    let low = closer (with_one T i) less (record { is_set = IsSetBelow-with_one n T i fT.is_set lt; passes = m.1 }) (with_one_within T X i w (stuck.within i h)) in
+    let high = stuck.remove i h m.0 in
+    let sum = m.2 in
     omega (arith, ints))
-    (λ s. absurd (not_both (has s.0 S) (part s.0 s.1) s.2))
-    (exchange S T i stuck.is_feasible fT h out)
+    (λ s. absurd (s.2 (part s.0 s.1)))
+    (exchange S T i stuck.is_feasible.is_set fT.is_set stuck.is_feasible.passes fT.passes h (λ there. not_both (has i T) there out))
 
-from_closer : (n : ℕ) (feasible : List ℕ → Bool) (score : List ℕ → ℤ) (X S T : List ℕ) → HasExchange n feasible score → IsStuck n feasible score X S →
+from_closer : (n : ℕ) (feasible : List ℕ → Bool) (score : List ℕ → ℤ) (X S T : List ℕ) → Exchange n feasible score → IsStuck n feasible score X S →
     Closer n feasible score X S T → IsFeasible n feasible T → IsWithin T X → score T ≤ℤ score S
 from_closer n feasible score X S T exchange stuck closer fT w =
     ⊎_elim
@@ -149,11 +149,11 @@ from_closer n feasible score X S T exchange stuck closer fT w =
     (λ extra. from_extra n feasible score X S T exchange stuck closer fT w extra.0 extra.1 extra.2)
     (cases_within T S)
 
-within_steps : (n : ℕ) (feasible : List ℕ → Bool) (score : List ℕ → ℤ) (X S : List ℕ) → HasExchange n feasible score → IsStuck n feasible score X S →
+within_steps : (n : ℕ) (feasible : List ℕ → Bool) (score : List ℕ → ℤ) (X S : List ℕ) → Exchange n feasible score → IsStuck n feasible score X S →
     (k : ℕ) (T : List ℕ) → differ n S T < k → IsFeasible n feasible T → IsWithin T X → score T ≤ℤ score S
 within_steps n feasible score X S exchange stuck zero T lt fT w = absurd (omega arith)
 within_steps n feasible score X S exchange stuck (suc k) T lt fT w =
     from_closer n feasible score X S T exchange stuck (λ U less. within_steps n feasible score X S exchange stuck k U (omega arith)) fT w
 
-pub upper_from_stuck : (n : ℕ) (feasible : List ℕ → Bool) (score : List ℕ → ℤ) (X S : List ℕ) → HasExchange n feasible score → IsStuck n feasible score X S → IsUpper n feasible score X S
+pub upper_from_stuck : (n : ℕ) (feasible : List ℕ → Bool) (score : List ℕ → ℤ) (X S : List ℕ) → Exchange n feasible score → IsStuck n feasible score X S → IsUpper n feasible score X S
 upper_from_stuck n feasible score X S exchange stuck T = within_steps n feasible score X S exchange stuck (suc (differ n S T)) T (omega arith)

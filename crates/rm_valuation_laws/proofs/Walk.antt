@@ -5,7 +5,7 @@ use Rattle.std.proofs.lemmas.Bool.{cases_eq, cases_Bool, lt-ltb}
 use Rattle.std.proofs.lemmas.List.Elements.{All-from_get_or}
 use Rattle.rm_sets.specs.Sets.{has, IsIn, IsSet, IsSetBelow, with_one, without}
 use Rattle.rm_sets.proofs.Sets.{not_both}
-use Rattle.rm_sets.proofs.Members.{not_in_without, with_one-without, without_within, IsSetBelow-without, IsSetBelow-with_one}
+use Rattle.rm_sets.proofs.Members.{not_in_without, without_within, IsSetBelow-without}
 use Rattle.rm_market.specs.Best.{Values, is_better, IsBest, values_of, swapped}
 use Rattle.rm_market.specs.Board.{Node, Board, count, is_feasible, int_sum, total, worth, node_at, no_node}
 use Rattle.rm_valuation_laws.specs.Scores.{bit, score, place}

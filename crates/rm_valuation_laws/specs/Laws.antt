@@ -1,8 +1,8 @@
 -- The theorems of this crate: each is carried by a public function.
 use Rattle.std.specs.Prelude.{map, ◌≡◌, ◌↔◌, ◌⊎◌, ℕ, ◌<◌, ◌≤◌, Bool, ◌==◌, List, [], length, ◌+ℤ◌, ◌≤ℤ◌, ◌<ℤ◌, IsTrue, IsFalse}
 use Rattle.rm_sets.specs.Sets.{has, IsIn, IsSet, IsSetBelow, with_one, without}
-use Rattle.rm_valuation_laws.specs.Choice.{HasExchange, HasSizeExchange, IsStrict, greedy}
-use Rattle.rm_market.specs.Best.{IsChoice, Values, is_better, IsBest, IsValuation, values_of, best_of, swapped}
+use Rattle.rm_valuation_laws.specs.Choice.{IsStrict, greedy}
+use Rattle.rm_market.specs.Best.{IsChoice, Values, is_better, IsBest, IsValuation, values_of, best_of, swapped, Exchange, SizeExchange}
 use Rattle.rm_market.specs.Board.{int_sum, Board, IsBoard, contract_count, is_feasible, worth, node_at, sets_of}
 use Rattle.rm_valuation_laws.specs.Scores.{score, place, IsUnimproved, IsOfferAnswer, IsWorthiest, IsBestSoFar}
 use Rattle.rm_valuation_laws.specs.Changes.{loss_upto, IsChain, next_step, last_step, IsConcaveBoard, gain, loss, swap_gain, swap_loss, test_at, IsCheaper, IsCheapest, IsJustAbove}
@@ -20,11 +20,11 @@ ScoresDiffer = (n : ℕ) (v : Values) → IsValuation n v → IsStrict n v.feasi
 
 -- the score has exchange, as the worth has
 abbrev pub ScoresHaveExchange : Type 0
-ScoresHaveExchange = (n : ℕ) (v : Values) → IsValuation n v → HasExchange n v.feasible (score v)
+ScoresHaveExchange = (n : ℕ) (v : Values) → IsValuation n v → Exchange n v.feasible (score v)
 
 -- and size exchange
 abbrev pub ScoresHaveSizeExchange : Type 0
-ScoresHaveSizeExchange = (n : ℕ) (v : Values) → IsValuation n v → HasSizeExchange n v.feasible (score v)
+ScoresHaveSizeExchange = (n : ℕ) (v : Values) → IsValuation n v → SizeExchange n v.feasible (score v)
 
 -- a set is the best subset exactly where no single addition, removal or swap makes it better
 abbrev pub BestBySingleChanges : Type 0

@@ -1,14 +1,9 @@
 -- Worth and tie order as one number, and sets that single changes do not improve.
-use Rattle.std.specs.Prelude.{◌≡◌, ℕ, ◌≤◌, Bool, true, false, ◌==◌, List, [], ◌∷◌, find, ℤ, pos, ◌+ℤ◌, ◌≤ℤ◌, IsTrue, IsFalse}
+use Rattle.std.specs.Prelude.{◌≡◌, ℕ, ◌≤◌, Bool, true, false, ◌==◌, List, [], ◌∷◌, ℤ, pos, ◌+ℤ◌, ◌≤ℤ◌, IsTrue, IsFalse}
 use Rattle.std.specs.List.{position_or_len}
-use Rattle.std.specs.Option.{option_map_or}
 use Rattle.rm_sets.specs.Sets.{has, IsIn, IsSet, IsWithin, with_one, without}
 use Rattle.rm_valuation_laws.specs.Choice.{IsTopSoFar}
-use Rattle.rm_market.specs.Best.{Values, is_in_one, is_better, swapped}
-
--- the first contract of these that is in exactly one of the two sets is in S
-abbrev pub leads : List ℕ → List ℕ → List ℕ → Bool
-leads ties S T = option_map_or (λ x. has x S) (find (λ x. is_in_one x S T) ties) false
+use Rattle.rm_market.specs.Best.{Values, is_better, swapped}
 
 -- S is feasible, and no single addition within X, removal or swap within X makes it better
 pub record IsUnimproved (v : Values) (X S : List ℕ) : Type 0 where

@@ -26,7 +26,7 @@ AllFit v S x L = (y : ℕ) → IsIn y L → v.feasible (swapped S x y) ≡ true
 abbrev Finds : Values → List ℕ → ℕ → List ℕ → ℕ → Type 0
 Finds v S x L z = (r : ℕ) × (fold (first_or_better v S x) (Some z) L ≡ Some r) × IsHighest v S x (z ∷ L) r
 
-not_higher : (v : Values) (S T : List ℕ) → v.feasible S ≡ true → is_better v S T ≡ false → score v S ≤ℤ score v T
+pub not_higher : (v : Values) (S T : List ℕ) → v.feasible S ≡ true → is_better v S T ≡ false → score v S ≤ℤ score v T
 not_higher v S T f worse =
     ⊎_elim
     (λ lt. omega (arith, ints))
@@ -88,7 +88,7 @@ swaps_differ S x y z out iy iz ne e =
     let there : has y (swapped S x z) ≡ true = with_other (without S z) x y nyx ∙ (without_other S z y ne ∙ iy) in
     not_both (has y (swapped S x z)) there (ap (has y) (sym e) ∙ gone)
 
-better_swap_from : (n : ℕ) (v : Values) (S : List ℕ) (x y z : ℕ) → IsValuation n v → IsSetBelow n S → x < n → has x S ≡ false → IsIn y S → IsIn z S → y ≢ z →
+pub better_swap_from : (n : ℕ) (v : Values) (S : List ℕ) (x y z : ℕ) → IsValuation n v → IsSetBelow n S → x < n → has x S ≡ false → IsIn y S → IsIn z S → y ≢ z →
     v.feasible (swapped S x z) ≡ true → (v.feasible (swapped S x y) ≡ true → score v (swapped S x y) ≤ℤ score v (swapped S x z)) → is_better v (swapped S x z) (swapped S x y) ≡ true
 better_swap_from n v S x y z laws sS lt out iy iz ne fz high =
     ⊎_elim

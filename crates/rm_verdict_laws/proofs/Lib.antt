@@ -1,11 +1,11 @@
 pub mod First
 mod Changes
-mod Over
-mod Swaps
+pub mod Over
+pub mod Swaps
 pub mod Verdict
 mod Sorted
 mod Full
-mod BestSwap
+pub mod BestSwap
 pub mod Certificate
 pub mod OneCertificate
 mod Blocking

@@ -39,7 +39,7 @@ one_swap v S x z y h g =
 same_swap_row : (r q : SwapRow) → r.out ≡ q.out → r.change ≡ q.change → r ≡ q
 same_swap_row r q e f = ap₂ (λ o c. record { out = o; change = c }) e f
 
-one_cell : (v : Values) (S : List ℕ) (x : ℕ) (r q : Option SwapRow) → IsSwapCell v S x r → IsSwapCell v S x q → r ≡ q
+pub one_cell : (v : Values) (S : List ℕ) (x : ℕ) (r q : Option SwapRow) → IsSwapCell v S x r → IsSwapCell v S x q → r ≡ q
 one_cell v S x None None h g = refl
 one_cell v S x None (Some q) h g = absurd (not_both (v.feasible (swapped S x q.out)) g.0.feasible (h q.out g.0.member))
 one_cell v S x (Some r) None h g = absurd (not_both (v.feasible (swapped S x r.out)) h.0.feasible (g r.out h.0.member))

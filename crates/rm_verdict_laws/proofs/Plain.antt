@@ -143,7 +143,7 @@ all_stable m S ok =
 -- ---- all optimal sets
 
 lists_count : (m : Market) → length (wishes_of m).listed ≡ length m.lists
-lists_count m = length-map (enumerate_from 0 m.lists) (λ e. listed_contracts m.board e.0 e.1) ∙ length-enumerate_from 0 m.lists
+lists_count m = length-map (enumerate_from 0 m.lists) (λ e. listed_contracts m.board.ranks e.0 e.1) ∙ length-enumerate_from 0 m.lists
 
 abbrev is_no_worse : Market → List ℕ → List ℕ → ℕ → Bool
 is_no_worse m S T d = not (prefers_place (wishes_of m) d (at (wishes_of m) d T) (at (wishes_of m) d S))

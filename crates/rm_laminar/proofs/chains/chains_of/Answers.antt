@@ -5,7 +5,7 @@ use Rattle.std.proofs.lemmas.Result.{err_from_is_err_and}
 use Rattle.rm_sets.specs.Sets.{IsSetBelow}
 use Rattle.rm_base.specs.Checks.{first_of}
 use Rattle.rm_market.specs.Tree.{group_checks, tree_fault}
-use Rattle.rm_laminar.specs.Chains.{lists_of, AreGroups, AreChains}
+use Rattle.rm_laminar.specs.Chains.{lists_of, AreHospitalGroups, AreChains}
 use Rattle.rm_laminar.proofs.ListOfLists.{list-at, lists-length}
 use Rattle.rm_laminar.proofs.Loops.{none-read, one-read, all-read, group-stops, passes-stops, first-groups}
 use Rattle.rm_laminar.proofs.chains.chains_of.Goals as goal
@@ -16,10 +16,10 @@ first-lists groups b = sym (take-map (λ (v : Vec ℕ Global). v.items) b groups
 first-chains : (hospitals n b : ℕ) (groups : List (Vec ℕ Global)) (lists : List (List ℕ)) → n ≡ hospitals → AreChains hospitals (take b (lists_of groups)) lists → AreChains n (lists_of (take b groups)) lists
 first-chains hospitals n b groups lists len c = rw (len, first-lists groups b) c
 
-first-of-groups : (hospitals n b : ℕ) (groups : List (Vec ℕ Global)) → n ≡ hospitals → AreGroups hospitals (lists_of groups) → AreGroups n (lists_of (take b groups))
+first-of-groups : (hospitals n b : ℕ) (groups : List (Vec ℕ Global)) → n ≡ hospitals → AreHospitalGroups hospitals (lists_of groups) → AreHospitalGroups n (lists_of (take b groups))
 first-of-groups hospitals n b groups len g = rw (len, first-lists groups b) (first-groups hospitals (lists_of groups) b g)
 
-set-at : (hospitals n b : ℕ) (groups : List (Vec ℕ Global)) (group : List ℕ) → n ≡ hospitals → AreGroups hospitals (lists_of groups) → b < length groups → get_or (lists_of groups) b [] ≡ group → IsSetBelow n group
+set-at : (hospitals n b : ℕ) (groups : List (Vec ℕ Global)) (group : List ℕ) → n ≡ hospitals → AreHospitalGroups hospitals (lists_of groups) → b < length groups → get_or (lists_of groups) b [] ≡ group → IsSetBelow n group
 set-at hospitals n b groups group len g lt at = rw (len, ← at) (g.sets b (rw lists-length lt))
 
 pub loop-b-init : goal.loop-b-init
