@@ -1,11 +1,10 @@
 -- The index of a list: how it is built, and what is found by it.
-use Rattle.std.proofs.Common.{eqb, ◌≡◌, ◌∙◌, sym, ap, refl, ℕ, suc, ◌+◌, ◌-◌, ◌<◌, ◌≤◌, ◌^◌, List, [], ◌∷◌, ◌++◌, length, take, drop, get_or, false, arith, append_assoc, length-append, length-drop, add-zero}
+use Rattle.std.proofs.Common.{eqb, ◌≡◌, ◌∙◌, sym, ap, refl, ℕ, suc, ◌+◌, ◌-◌, ◌<◌, ◌≤◌, ◌^◌, List, [], ◌∷◌, ◌++◌, length, take, drop, get_or, arith, append_assoc, length-append, length-drop, add-zero}
 use Rattle.std.specs.Bool.{◌==◌}
-use Rattle.std.specs.Ordering.{is_lt, nat_cmp, ordering_then}
 use Rattle.std.specs.List.{IsDistinct}
-use Rattle.std.specs.List.Sorted.{IsPermutation, IsSorted, IsNonDecreasingBy}
+use Rattle.std.specs.List.Sorted.{IsPermutation, IsNonDecreasingBy}
 use Rattle.std.proofs.lemmas.List.{append-nil, length-take-le, take_at, drop_at, take_all, drop_all, take_more, get_or_default}
-use Rattle.std.proofs.lemmas.List.Sorted.{IsNonDecreasingBy-from_all_adjacent, length_permutation}
+use Rattle.std.proofs.lemmas.List.Sorted.{length_permutation}
 use Rattle.std.proofs.lemmas.Bool.Decides.{nat_tests}
 use Rattle.std.proofs.lemmas.Map.Steps.{length-le_from_distinct_below}
 use Rattle.std.proofs.lemmas.List.Folds.{Any-from_list_any}
@@ -13,9 +12,6 @@ use borrow.Rule.Slice.PartMut.{post_of}
 use Rattle.rm_ranks.specs.Packed.{placed_from, AddsIndex}
 
 -- ---- building
-
-least-first : (x y : ℕ × ℕ) → is_lt (ordering_then (nat_cmp y.0 x.0) (nat_cmp y.1 x.1)) ≡ false → x.0 ≤ y.0
-least-first x y h = grind (arith, nat_tests, h)
 
 pub placed-push : (s : ℕ) (xs : List ℕ) (y : ℕ) → placed_from s (xs ++ y ∷ []) ≡ placed_from s xs ++ (y, s + length xs) ∷ []
 placed-push s [] y = rw add-zero refl
@@ -43,9 +39,6 @@ tail-replaced n s items xs ys same n-is le as_long =
     let long : length (take s items ++ ys) ≡ n = omega (arith, length-append (take s items) ys, length-take-le s items le) in
     rw (same, none, append-nil ys, take_at (take s items ++ ys) (drop (length (take s items ++ ys)) items) n long) refl
 
-pub sorted-by_item : (ys : List (ℕ × ℕ)) → IsSorted (λ x y. ordering_then (nat_cmp x.0 y.0) (nat_cmp x.1 y.1)) ys → IsNonDecreasingBy (λ p. p.0) ys
-sorted-by_item ys sorted = IsNonDecreasingBy-from_all_adjacent (λ p. p.0) ys (λ k d lt. least-first (get_or ys k d) (get_or ys (k + 1) d) (sorted k d (omega arith) lt))
-
 pub placed-one :
     (old items new : List (ℕ × ℕ)) (list : List ℕ) (i : ℕ) → items ≡ old ++ placed_from 0 (take i list) → i < length list →
     new ≡ items ++ (get_or list i 0, i) ∷ [] → new ≡ old ++ placed_from 0 (take (i + 1) list)
@@ -53,7 +46,7 @@ placed-one old items new list i so-far lt more = rw (more, so-far, placed-more l
 
 pub index-added :
     (n s i : ℕ) (list : List ℕ) (old items xs ys : List (ℕ × ℕ)) → xs ≡ items → n ≡ length items → s ≡ length old → items ≡ old ++ placed_from 0 (take i list) → length list ≤ i →
-    IsPermutation (take (length xs - s) (drop s xs)) ys → IsSorted (λ x y. ordering_then (nat_cmp x.0 y.0) (nat_cmp x.1 y.1)) ys →
+    IsPermutation (take (length xs - s) (drop s xs)) ys → IsNonDecreasingBy (λ p. p.0) ys →
     AddsIndex list old (take n ((take s xs ++ (ys ++ post_of s (length xs - s) xs)) ++ drop (length (take s xs ++ (ys ++ post_of s (length xs - s) xs))) items))
 index-added n s i list old items xs ys same n-is s-is all end moved sorted =
     let placed : items ≡ old ++ placed_from 0 list = rw (all, take_all i list end) refl in
@@ -63,4 +56,4 @@ index-added n s i list old items xs ys same n-is s-is all end moved sorted =
     let whole : take (length items - s) (drop s items) ≡ drop s items = take_all (length items - s) (drop s items) (omega (arith, length-drop s items)) in
     let moves : IsPermutation (placed_from 0 list) ys = rw (same, whole, rest) at moved in
     let as_long : length ys ≡ length items - s = omega (arith, length_permutation (placed_from 0 list) ys moves, ap length rest, length-drop s items) in
-    (ys, tail-replaced n s items xs ys same n-is le as_long ∙ ap (λ (t : List (ℕ × ℕ)). t ++ ys) front, record { same = moves; sorted = sorted-by_item ys sorted })
+    (ys, tail-replaced n s items xs ys same n-is le as_long ∙ ap (λ (t : List (ℕ × ℕ)). t ++ ys) front, record { same = moves; sorted = sorted })

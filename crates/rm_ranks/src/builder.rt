@@ -112,7 +112,7 @@ impl ListsBuilder {
         ensures below { All (All (λ x. x < self.items)) self.lists }
         ensures held { (sum_by length self.lists ≡ self.held) × (self.held ≤ self.limit) }
     {
-        let mut packed = Packed::new(alloc);
+        let mut packed = Packed::with_capacity(alloc, self.spans.len(), self.items.len())?;
         for span in &self.spans {
             packed.push(&self.items[span.start..span.end])?;
         }

@@ -34,6 +34,18 @@ impl Packed {
         }
     }
 
+    // No list, with room for so many lists and items.
+    pub fn with_capacity(alloc: Global, lists: usize, items: usize) -> Result<Packed, AllocError>
+        ensures packed { IfOk result (λ p. ArePacked p.items.items p.places.items p.spans.items) }
+        ensures lists { IfOk result (λ p. lists_of p.items.items p.spans.items ≡ []) }
+    {
+        Ok(Packed {
+            items: Vec::with_capacity(alloc, items)?,
+            places: Vec::with_capacity(alloc, items)?,
+            spans: Vec::with_capacity(alloc, lists)?,
+        })
+    }
+
     // The same lists.
     pub fn copy(&self, alloc: Global) -> Result<Packed, AllocError>
         ensures items { IfOk result (λ p. p.items.items ≡ self.now.items.items) }
@@ -75,6 +87,6 @@ fn push_places(places: &mut Vec<(u32, u32)>, list: &[u32]) -> Result<(), AllocEr
     for place in 0..list.len() {
         places.push((list[place], place as u32))?;
     }
-    places[start..].sort_unstable();
+    places[start..].sort_unstable_by_key(|place| place.0);
     Ok(())
 }

@@ -8,20 +8,20 @@ use Rattle.std.proofs.lemmas.List.{map_push, length-map, append-nil}
 use Rattle.std.proofs.lemmas.List.Elements.{All-nil, All-push, All-map, All-head, All-tail, filter_map-append}
 use Rattle.std.proofs.lemmas.List.Sums.{sum_by_push, sum_by-cons}
 use Rattle.std.proofs.lemmas.Map.Keys.{IsDistinct-push}
+use Rattle.rm_base.specs.Lists.{IsListBelow}
 use Rattle.rm_base.specs.Checks.{check, first_of, checks_of}
 use Rattle.rm_base.specs.Codes.{refuse}
-use Rattle.rm_base.specs.Names.{AreDistinct, place_of}
+use Rattle.rm_base.specs.Names.{AreDistinct, is_name, place_of}
 use Rattle.rm_base.specs.Text.{Text}
 use Rattle.rm_base.specs.declared.Refusal.{Refusal}
 use Rattle.rm_base.specs.declared.codes.TheConstants.{DOCTORS_FILE, RANKS_FILE, BAD_NAME, REPEATED_NAME, REPEATED_CHOICE, REPEATED_ROW, TOO_MANY, MOST_DOCTORS, MOST_CHOICES, DOCTORS_LIMIT, CHOICES_LIMIT, RANKED_LIMIT}
 use Rattle.rm_base.proofs.CheckLemmas.{check-none, mapped-none, none-each, none-parts, passed}
 use Rattle.rm_base.proofs.NameLemmas.{distinct-more}
 use Rattle.rm_table.specs.Rows.{Row}
-use Rattle.rm_roster.specs.Cells.{is_name, name_in}
+use Rattle.rm_roster.specs.Cells.{name_in}
 use Rattle.rm_roster.specs.Items.{cell_checks_after, item_of, items_in, list_checks, list_in, number_checks}
 use Rattle.rm_roster.specs.Doctors.{doctor_checks_after}
 use Rattle.rm_roster.specs.Ranks.{found_checks, names_hospital, rank_checks_after, rank_of, ranks_of}
-use Rattle.rm_roster.specs.Roster.{IsList}
 use Rattle.rm_roster.proofs.NumberedTexts.{place-within}
 use Rattle.rm_roster.proofs.AcceptedHospitals.{none-distinct}
 
@@ -33,7 +33,7 @@ pub record Holds (n held : ℕ) (list : List ℕ) : Type 0 where
   pub below : All (λ x. x < n) list
   pub few : held + length list ≤ MOST_CHOICES
 
-none-list : (n : ℕ) → IsList n []
+none-list : (n : ℕ) → IsListBelow n []
 unfolding IsDistinct
 none-list n = (tt, All-nil (λ x. x < n))
 
@@ -76,11 +76,11 @@ list-holds file limit names i held row few e =
 pub record DoctorsHold (hospitals : List Text) (rows : List Row) : Type 0 where
   pub few : length rows ≤ MOST_DOCTORS
   pub names : AreDistinct (map name_in rows)
-  pub lists : All (IsList (length hospitals)) (map (list_in hospitals) rows)
+  pub lists : All (IsListBelow (length hospitals)) (map (list_in hospitals) rows)
   pub held : sum_by (λ r. length (list_in hospitals r)) rows ≤ MOST_CHOICES
 
 no-doctor : (hospitals : List Text) → DoctorsHold hospitals []
-no-doctor hospitals = record { few = omega arith; names = none-distinct; lists = All-nil (IsList (length hospitals)); held = omega arith }
+no-doctor hospitals = record { few = omega arith; names = none-distinct; lists = All-nil (IsListBelow (length hospitals)); held = omega arith }
 
 one-doctor : (hospitals : List Text) (before : List Row) (row : Row) → DoctorsHold hospitals before → first_of (doctor_checks_after hospitals before row) ≡ None → DoctorsHold hospitals (before ++ row ∷ [])
 one-doctor hospitals before row h e =
@@ -100,7 +100,7 @@ one-doctor hospitals before row h e =
     record {
       few = omega (arith, few, length-map before name_in, length-append before (row ∷ []));
       names = rw (map_push name_in before row) (distinct-more names (name_in row) h.names new);
-      lists = rw (map_push (list_in hospitals) before row) (All-push (IsList (length hospitals)) (map (list_in hospitals) before) (list_in hospitals row) h.lists (list.distinct, list.below));
+      lists = rw (map_push (list_in hospitals) before row) (All-push (IsListBelow (length hospitals)) (map (list_in hospitals) before) (list_in hospitals row) h.lists (list.distinct, list.below));
       held = rw (sum_by_push (λ r. length (list_in hospitals r)) before row) list.few;
     }
 
@@ -110,7 +110,7 @@ doctors-hold hospitals rows e = passed (doctor_checks_after hospitals) (DoctorsH
 -- ---- rank lists
 
 pub record RanksHold (doctors : List Text) (rows : List Row) : Type 0 where
-  pub lists : All (λ row. IsList (length doctors) (list_in doctors row)) rows
+  pub lists : All (λ row. IsListBelow (length doctors) (list_in doctors row)) rows
   pub held : sum_by (λ r. length (list_in doctors r)) rows ≤ MOST_CHOICES
 
 found-passes : (doctors : List Text) (i : ℕ) (former : ℕ → Option ℕ) (held : ℕ) (row : Row) (o : Option ℕ) → first_of (found_checks doctors i former held row o) ≡ None
@@ -124,13 +124,13 @@ one-rank hospitals doctors before row h e =
     let held = sum_by (λ r. length (list_in doctors r)) before in
     let list = list-holds RANKS_FILE RANKED_LIMIT doctors (length before + 1) held row h.held (found-passes doctors (length before + 1) _ held row (place_of hospitals (name_in row)) e) in
     record {
-      lists = All-push (λ r. IsList (length doctors) (list_in doctors r)) before row h.lists (list.distinct, list.below);
+      lists = All-push (λ r. IsListBelow (length doctors) (list_in doctors r)) before row h.lists (list.distinct, list.below);
       held = rw (sum_by_push (λ r. length (list_in doctors r)) before row) list.few;
     }
 
 pub ranks-hold : (hospitals doctors : List Text) (rows : List Row) → first_of (checks_of (rank_checks_after hospitals doctors) rows) ≡ None → RanksHold doctors rows
 ranks-hold hospitals doctors rows e =
-    passed (rank_checks_after hospitals doctors) (RanksHold doctors) (record { lists = All-nil (λ r. IsList (length doctors) (list_in doctors r)); held = omega arith }) (one-rank hospitals doctors) rows e
+    passed (rank_checks_after hospitals doctors) (RanksHold doctors) (record { lists = All-nil (λ r. IsListBelow (length doctors) (list_in doctors r)); held = omega arith }) (one-rank hospitals doctors) rows e
 
 -- the row that is found is one of the rows
 find-by : {X : Type 0} (P : X → Type 0) (b : Bool) (x : X) (o : Option X) → P x → IfSome o P → IfSome (cond b (Some x) o) P
@@ -141,14 +141,14 @@ find-holds : {X : Type 0} (P : X → Type 0) (test : X → Bool) (xs : List X) �
 find-holds P test [] all = tt
 find-holds P test (x ∷ xs) all = find-by P (test x) x (find test xs) (All-head P x xs all) (find-holds P test xs (All-tail P x xs all))
 
-rank-by : (doctors : List Text) (o : Option Row) → IfSome o (λ row. IsList (length doctors) (list_in doctors row)) → IsList (length doctors) (option_map_or (list_in doctors) o [])
+rank-by : (doctors : List Text) (o : Option Row) → IfSome o (λ row. IsListBelow (length doctors) (list_in doctors row)) → IsListBelow (length doctors) (option_map_or (list_in doctors) o [])
 rank-by doctors None h = none-list (length doctors)
 rank-by doctors (Some row) h = h
 
-pub each-rank : (hospitals doctors : List Text) (rows : List Row) → RanksHold doctors rows → All (IsList (length doctors)) (ranks_of hospitals doctors rows)
+pub each-rank : (hospitals doctors : List Text) (rows : List Row) → RanksHold doctors rows → All (IsListBelow (length doctors)) (ranks_of hospitals doctors rows)
 each-rank hospitals doctors rows r =
-    All-map (IsList (length doctors)) (rank_of hospitals doctors rows) (range_with_len 0 (length hospitals))
-    (λ k d lt. rank-by doctors _ (find-holds (λ row. IsList (length doctors) (list_in doctors row)) (names_hospital hospitals _) rows r.lists))
+    All-map (IsListBelow (length doctors)) (rank_of hospitals doctors rows) (range_with_len 0 (length hospitals))
+    (λ k d lt. rank-by doctors _ (find-holds (λ row. IsListBelow (length doctors) (list_in doctors row)) (names_hospital hospitals _) rows r.lists))
 
 -- ---- the contracts are items of rows
 

@@ -10,7 +10,7 @@ use Rattle.rm_roster.specs.Cells.{data_rows}
 use Rattle.rm_roster.specs.Doctors.{doctor_table_checks, doctors_of, DoctorsData}
 use Rattle.rm_roster.specs.Hospitals.{hospital_table_checks, hospitals_of, HospitalsData}
 use Rattle.rm_roster.specs.Ranks.{rank_table_checks, ranks_of}
-use Rattle.rm_roster.specs.Roster.{joined, names_in, roster_checks, roster_of}
+use Rattle.rm_roster.specs.Roster.{roster_joined, names_in, roster_checks, roster_of}
 
 -- where a file stops the reading, and those before it don't
 pub hospitals-stop : (hs ds rs : List Row) (e : ReadFault) → Stops (first_of (hospital_table_checks hs)) e → Stops (first_of (roster_checks hs ds rs)) e
@@ -45,6 +45,6 @@ all-files hs ds rs hospitals doctors ranks = through-two hs ds rs hospitals doct
 
 -- the roster is what the parts say
 pub roster-is : (hs ds rs : List Row) (hospitals : HospitalsData) (doctors : DoctorsData) (ranks : List (List ℕ)) → hospitals ≡ hospitals_of (data_rows hs)
-    → doctors ≡ doctors_of (names_in hs) (data_rows ds) → ranks ≡ ranks_of (names_in hs) (names_in ds) (data_rows rs) → joined hospitals doctors ranks ≡ roster_of hs ds rs
+    → doctors ≡ doctors_of (names_in hs) (data_rows ds) → ranks ≡ ranks_of (names_in hs) (names_in ds) (data_rows rs) → roster_joined hospitals doctors ranks ≡ roster_of hs ds rs
 unfolding roster_of
 roster-is hs ds rs hospitals doctors ranks h d r = rw (h, d, r) refl

@@ -1,5 +1,5 @@
 -- Rows and cells of a table, and what a cell may be.
-use Rattle.std.specs.Prelude.{ℕ, ◌+◌, ◌-◌, Bool, not, ◌&&◌, ◌==◌, nat_le, List, [], ◌∷◌, length, get_or, drop, Option, Some, None, option_map, if◌then◌else◌}
+use Rattle.std.specs.Prelude.{ℕ, ◌+◌, ◌-◌, Bool, ◌&&◌, ◌==◌, nat_le, List, [], ◌∷◌, length, get_or, drop, Option, Some, None, option_map, if◌then◌else◌}
 use Rattle.std.specs.List.{list_all}
 use Rattle.std.specs.Str.{bytes_eq}
 use Rattle.std.specs.Char.{is_ascii_digit}
@@ -7,7 +7,7 @@ use Rattle.std.specs.Str.Parse.{digits_value}
 use Rattle.rm_base.specs.Text.{Text}
 use Rattle.rm_base.specs.Codes.{refuse}
 use Rattle.rm_base.specs.declared.Refusal.{Refusal}
-use Rattle.rm_base.specs.declared.codes.TheConstants.{MOST_NAME_BYTES, WRONG_HEADER}
+use Rattle.rm_base.specs.declared.codes.TheConstants.{WRONG_HEADER}
 use Rattle.rm_table.specs.Rows.{Row}
 
 -- the cell of a field, counted from 1, or the empty text past the end
@@ -22,15 +22,7 @@ name_in row = field 1 row
 abbrev pub data_rows : List Row → List Row
 data_rows rows = drop 1 rows
 
--- ---- names and numbers
-
--- no control character
-abbrev pub is_printed : ℕ → Bool
-is_printed c = nat_le 0x20 c && not (c == 0x7F)
-
--- 1 to 64 bytes, none of them a control character
-abbrev pub is_name : Text → Bool
-is_name text = nat_le 1 (length text) && nat_le (length text) MOST_NAME_BYTES && list_all is_printed text
+-- ---- numbers
 
 -- 1 to 9 digits
 abbrev pub is_number : Text → Bool

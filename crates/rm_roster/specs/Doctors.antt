@@ -3,12 +3,12 @@ use Rattle.std.specs.Prelude.{ℕ, ◌+◌, not, nat_lt, List, [], ◌∷◌, ma
 use Rattle.std.specs.List.{sum_by}
 use Rattle.rm_base.specs.Checks.{check, checks_of}
 use Rattle.rm_base.specs.Codes.{refuse}
-use Rattle.rm_base.specs.Names.{place_of}
+use Rattle.rm_base.specs.Names.{is_name, place_of}
 use Rattle.rm_base.specs.Text.{Text}
 use Rattle.rm_base.specs.declared.Refusal.{Refusal}
 use Rattle.rm_base.specs.declared.codes.TheConstants.{DOCTORS_FILE, BAD_NAME, REPEATED_NAME, TOO_MANY, MOST_DOCTORS, DOCTORS_LIMIT, CHOICES_LIMIT}
 use Rattle.rm_table.specs.Rows.{Row}
-use Rattle.rm_roster.specs.Cells.{name_in, data_rows, is_name, header_check}
+use Rattle.rm_roster.specs.Cells.{name_in, data_rows, header_check}
 use Rattle.rm_roster.specs.Items.{list_checks, list_in}
 
 -- the checks of a row, with the names of the rows before it, and the number of their items

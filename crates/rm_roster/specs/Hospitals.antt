@@ -3,12 +3,12 @@ use Rattle.std.specs.Prelude.{ℕ, ◌+◌, Bool, not, ◌||◌, ◌==◌, nat_l
 use Rattle.std.specs.List.{sum_by}
 use Rattle.rm_base.specs.Checks.{check, checks_of}
 use Rattle.rm_base.specs.Codes.{refuse}
-use Rattle.rm_base.specs.Names.{place_of}
+use Rattle.rm_base.specs.Names.{is_name, place_of}
 use Rattle.rm_base.specs.Text.{Text}
 use Rattle.rm_base.specs.declared.Refusal.{Refusal}
 use Rattle.rm_base.specs.declared.codes.TheConstants.{HOSPITALS_FILE, BAD_NAME, REPEATED_NAME, BAD_NUMBER, ABOVE_LIMIT, TARGET_ABOVE_CAPACITY, TOO_MANY, GREATEST_CAPACITY, MOST_HOSPITALS, HOSPITALS_LIMIT, MOST_SEATS, SEATS_LIMIT}
 use Rattle.rm_table.specs.Rows.{Row}
-use Rattle.rm_roster.specs.Cells.{field, name_in, data_rows, is_name, is_number, number, header_check}
+use Rattle.rm_roster.specs.Cells.{field, name_in, data_rows, is_number, number, header_check}
 
 abbrev pub prefecture_in : Row → Text
 prefecture_in row = field 2 row

@@ -1,6 +1,7 @@
 -- What the files of hospitals, doctors and rank lists say, or their first refusal.
 use Rattle.std.specs.Prelude.{◌≡◌, ℕ, ◌≤◌, ◌<◌, ◌==◌, List, ◌++◌, map, length, sum, All, Option}
-use Rattle.std.specs.List.{sum_by, AllZip, IsDistinct}
+use Rattle.std.specs.List.{sum_by, AllZip}
+use Rattle.rm_base.specs.Lists.{IsListBelow}
 use Rattle.rm_base.specs.Names.{AreDistinct}
 use Rattle.rm_base.specs.Text.{Text}
 use Rattle.rm_base.specs.declared.Refusal.{Refusal}
@@ -33,8 +34,8 @@ roster_checks hospitals doctors ranks =
     hospital_table_checks hospitals ++ (doctor_table_checks (names_in hospitals) doctors ++ rank_table_checks (names_in hospitals) (names_in doctors) ranks)
 
 -- the roster of what three files say
-abbrev pub joined : HospitalsData → DoctorsData → List (List ℕ) → RosterData
-joined hospitals doctors ranks =
+abbrev pub roster_joined : HospitalsData → DoctorsData → List (List ℕ) → RosterData
+roster_joined hospitals doctors ranks =
     record {
       hospitals = hospitals.names;
       prefectures = hospitals.prefectures;
@@ -48,12 +49,8 @@ joined hospitals doctors ranks =
 
 unfoldable pub roster_of : List Row → List Row → List Row → RosterData
 roster_of hospitals doctors ranks =
-    joined (hospitals_of (data_rows hospitals)) (doctors_of (names_in hospitals) (data_rows doctors))
+    roster_joined (hospitals_of (data_rows hospitals)) (doctors_of (names_in hospitals) (data_rows doctors))
     (ranks_of (names_in hospitals) (names_in doctors) (data_rows ranks))
-
--- a list of distinct numbers below n
-abbrev pub IsList : ℕ → List ℕ → Type 0
-IsList n list = IsDistinct ◌==◌ list × All (λ x. x < n) list
 
 -- what holds of the roster of files that no check refuses
 pub record IsRoster (r : RosterData) : Type 0 where
@@ -70,8 +67,8 @@ pub record IsRoster (r : RosterData) : Type 0 where
   pub target_each : length r.targets ≡ length r.hospitals
   pub targets : AllZip (λ target capacity. target ≤ capacity) r.targets r.capacities
   pub list_each : length r.lists ≡ length r.doctors
-  pub lists : All (IsList (length r.hospitals)) r.lists
+  pub lists : All (IsListBelow (length r.hospitals)) r.lists
   pub few_choices : sum_by length r.lists ≤ MOST_CHOICES
   pub rank_each : length r.ranks ≡ length r.hospitals
-  pub ranks : All (IsList (length r.doctors)) r.ranks
+  pub ranks : All (IsListBelow (length r.doctors)) r.ranks
   pub few_contracts : sum_by length r.ranks ≤ MOST_CHOICES

@@ -9,12 +9,13 @@ ghost use Rattle.rm_roster.specs.Items.{list_in};
 ghost use Rattle.rm_roster.specs.Doctors.{doctor_checks, doctor_checks_after, doctor_table_checks, DoctorsData, doctors_of};
 
 use crate::RosterFault;
-use crate::cells::{is_name, refused, wrong_cell};
+use crate::cells::{refused, wrong_cell};
 use crate::items::read_items;
 use rm_base::codes::{
     BAD_NAME, CHOICES_LIMIT, DOCTORS_FILE, DOCTORS_LIMIT, MOST_CHOICES, MOST_DOCTORS,
     REPEATED_NAME, TOO_MANY, WRONG_HEADER,
 };
+use rm_base::text::is_name;
 use rm_base::{Added, Names};
 use rm_ranks::{Lists, ListsBuilder};
 use rm_table::{Row, Table};

@@ -9,12 +9,13 @@ ghost use Rattle.rm_roster.specs.Hospitals.{hospital_checks, hospital_table_chec
 ghost use Rattle.rm_roster.specs.Readings.{ReadsTarget, ReadsHospital};
 
 use crate::RosterFault;
-use crate::cells::{is_name, number, wrong_cell};
+use crate::cells::{number, wrong_cell};
 use rm_base::codes::{
     ABOVE_LIMIT, BAD_NAME, BAD_NUMBER, GREATEST_CAPACITY, HOSPITALS_FILE, HOSPITALS_LIMIT,
     MOST_HOSPITALS, MOST_SEATS, REPEATED_NAME, SEATS_LIMIT, TARGET_ABOVE_CAPACITY, TOO_MANY,
     WRONG_HEADER,
 };
+use rm_base::text::is_name;
 use rm_base::{Added, Names, NoMemory, Refusal};
 use rm_table::{Row, Table};
 use std::alloc::{AllocError, Global};

@@ -13,6 +13,7 @@ mod hospitals;
 mod items;
 mod ranks;
 
+pub use cells::wrong_cell;
 use doctors::Doctors;
 use hospitals::Hospitals;
 use ranks::read_ranks;
@@ -35,13 +36,13 @@ pub struct Roster {
 }
 
 impl Model for Roster {
-    ghost use Rattle.rm_roster.specs.Roster.{RosterData, IsRoster, joined};
+    ghost use Rattle.rm_roster.specs.Roster.{RosterData, IsRoster, roster_joined};
 
     ghost Value = { RosterData };
 
-    ghost view = { λ r. joined r.hospitals r.doctors r.ranks };
+    ghost view = { λ r. roster_joined r.hospitals r.doctors r.ranks };
 
-    ghost invariant = { λ r. IsRoster (joined r.hospitals r.doctors r.ranks) };
+    ghost invariant = { λ r. IsRoster (roster_joined r.hospitals r.doctors r.ranks) };
 }
 
 /// The law that the roster of tables which no check refuses is as `IsRoster` says. It does nothing.

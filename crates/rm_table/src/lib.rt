@@ -100,12 +100,15 @@ impl Table {
     pub fn read(alloc: Global, bytes: &[u8]) -> Result<Table, TableFault>
         ensures { Reads bytes.now result }
     {
+        // Room for all bytes, and for cells of three bytes and a comma.
+        let Ok(mut cells) = StringRecord::with_capacity(alloc, bytes.len(), bytes.len() / 4) else {
+            return Err(TableFault::NoMemory);
+        };
         let mut reader = ReaderBuilder::new()
             .has_headers(false)
             .flexible(true)
             .from_reader(alloc, bytes);
         let mut fields = ByteRecord::new(alloc);
-        let mut cells = StringRecord::new(alloc);
         let mut ends = Vec::new(alloc);
         'records: loop {
             match reader.read_byte_record(&mut fields) {

@@ -10,7 +10,7 @@ pub records-init : goal.records-init
 unfolding rows_cut
 records-init c =
     let fr = c.from_reader-reader.ensures in
-    rw (c.new-ends.ensures.items, c.new-cells.ensures.fields) (
+    rw (c.new-ends.ensures.items, c.in-Ok.ensures.fields) (
       none-packed,
       going-start c.from_reader-reader.result c.args.bytes.now
           (rw (c.flexible.ensures, c.has_headers.ensures) at fr.trim ∙ c.new.ensures.trim)

@@ -11,6 +11,9 @@ push-requires-clause-few c =
     let lt : c.loop-span.span-index < length (lists_of items spans) = omega (arith, length-map spans (part items), ap length c.deref-span-items.ensures.value, c.loop-span-test.true) in
     one-fits _ _ (lists_of items spans) _ (rw (← c.self.view_is) at c.loop-span.invariant.lists) lt (omega (arith, length-map spans (part items), c.self.invariant.few))
 
+pub returns-in_err-packed-clause-below : goal.returns-in_err-packed-clause-below
+returns-in_err-packed-clause-below c = rw (← c.self.view_is) (lists-below c.self.inside.items.items c.self.inside.spans.items _ c.self.invariant.below)
+
 pub returns-in_err-push-clause-below : goal.returns-in_err-push-clause-below
 returns-in_err-push-clause-below c = rw (← c.self.view_is) (lists-below c.self.inside.items.items c.self.inside.spans.items _ c.self.invariant.below)
 
