@@ -11,7 +11,7 @@ use Rattle.rm_base.proofs.CheckLemmas.{first-none, first-some}
 use Rattle.rm_roster.specs.Roster.{RosterData}
 use Rattle.rm_base.specs.declared.ListedPair.{ListedPair}
 use Rattle.rm_policy.specs.Entries.{list_at, name_in}
-use Rattle.rm_policy.specs.Groups.{GroupsData, PrefecturesData, groups_of, joined, members_of_group, no_groups, prefectures_of, steps_of_group, with_group}
+use Rattle.rm_policy.specs.Groups.{GroupsData, PrefecturesData, groups_of, groups_joined, members_of_group, no_groups, prefectures_of, steps_of_group, with_group}
 use Rattle.rm_base.specs.Reading.{Stops}
 use Rattle.rm_base.specs.declared.ReadFault.{ReadFault}
 use Rattle.rm_base.specs.declared.ReadFault.TheVariants as fault
@@ -62,7 +62,7 @@ groups-even r ds =
     let all = groups-even-from r 0 no_groups ds (record { names = refl; members = refl; steps = refl }) in
     record { names = omega (arith, all.names); members = omega (arith, all.members); steps = omega (arith, all.steps) }
 
-pub policy-even : (r : RosterData) (ps gs : List Data) (p : PolicyData) → p.groups ≡ joined (prefectures_of r ps).groups (groups_of r gs) → p.orders ≡ (prefectures_of r ps).orders → length ps + length gs ≤ 5000 → IsPolicy p
+pub policy-even : (r : RosterData) (ps gs : List Data) (p : PolicyData) → p.groups ≡ groups_joined (prefectures_of r ps).groups (groups_of r gs) → p.orders ≡ (prefectures_of r ps).orders → length ps + length gs ≤ 5000 → IsPolicy p
 policy-even r ps gs p groups orders few =
     let g = groups_of r gs in
     let even = groups-even r gs in
@@ -92,15 +92,15 @@ policy-told r document d told is none same = (rw is none, d, is, same)
 
 -- ---- what a document says
 
-pub groups-joined : (r : RosterData) (ps gs : List Data) (all parts : GroupsData) (prefectures : PrefecturesData) (groups : GroupsData) → all ≡ joined parts groups → parts ≡ prefectures.groups → prefectures ≡ prefectures_of r ps → groups ≡ groups_of r gs
-    → all ≡ joined (prefectures_of r ps).groups (groups_of r gs)
-groups-joined r ps gs all parts prefectures groups is parts_are prefectures_are groups_are =
-    is ∙ ap (λ (g : GroupsData). joined g groups) (parts_are ∙ ap (λ (p : PrefecturesData). p.groups) prefectures_are) ∙ ap (λ (g : GroupsData). joined (prefectures_of r ps).groups g) groups_are
+pub groups-groups_joined : (r : RosterData) (ps gs : List Data) (all parts : GroupsData) (prefectures : PrefecturesData) (groups : GroupsData) → all ≡ groups_joined parts groups → parts ≡ prefectures.groups → prefectures ≡ prefectures_of r ps → groups ≡ groups_of r gs
+    → all ≡ groups_joined (prefectures_of r ps).groups (groups_of r gs)
+groups-groups_joined r ps gs all parts prefectures groups is parts_are prefectures_are groups_are =
+    is ∙ ap (λ (g : GroupsData). groups_joined g groups) (parts_are ∙ ap (λ (p : PrefecturesData). p.groups) prefectures_are) ∙ ap (λ (g : GroupsData). groups_joined (prefectures_of r ps).groups g) groups_are
 
 pub orders-told : (r : RosterData) (ps : List Data) (orders : List (Option (List ℕ))) (prefectures : PrefecturesData) → orders ≡ prefectures.orders → prefectures ≡ prefectures_of r ps → orders ≡ (prefectures_of r ps).orders
 orders-told r ps orders prefectures is prefectures_are = is ∙ ap (λ (p : PrefecturesData). p.orders) prefectures_are
 
 pub policy-is : (r : RosterData) (d : Data) (kind : Kind) (ties : Ties) (listed : List ListedPair) (groups : GroupsData) (orders : List (Option (List ℕ))) (steps : List (Option (List ℤ))) → kind ≡ kind_in d → ties ≡ ties_in d
-    → listed ≡ listed_pairs r (list_at pairs key.Listed d) → groups ≡ joined (prefectures_of r (prefecture_entries d)).groups (groups_of r (group_entries d)) → orders ≡ (prefectures_of r (prefecture_entries d)).orders
+    → listed ≡ listed_pairs r (list_at pairs key.Listed d) → groups ≡ groups_joined (prefectures_of r (prefecture_entries d)).groups (groups_of r (group_entries d)) → orders ≡ (prefectures_of r (prefecture_entries d)).orders
     → steps ≡ hospital_steps_of r (hospital_entries d) → record { kind = kind; ties = ties; listed = listed; groups = groups; orders = orders; hospital_steps = steps } ≡ policy_of r d
 policy-is r d kind ties listed groups orders steps kind_is ties_is listed_is groups_are orders_are steps_are = rw (kind_is, ties_is, listed_is, groups_are, orders_are, steps_are) refl

@@ -13,7 +13,7 @@ use Rattle.rm_base.specs.declared.Refusal.{Refusal}
 use Rattle.rm_base.proofs.CheckLemmas.{AreThrough, through-start, through-more, through-stop, through-end, first-none}
 use Rattle.rm_base.specs.declared.codes.TheConstants.{UNKNOWN_ENTRY_NAME, WRONG_ORDER}
 use Rattle.rm_roster.specs.Roster.{RosterData}
-use Rattle.rm_policy.specs.Entries.{refused, name_checks, number_of, numbers_of}
+use Rattle.rm_policy.specs.Entries.{refused, name_checks, number_named, numbers_of}
 use Rattle.rm_policy.specs.Prefectures.{fits, is_missing, order_element_checks}
 
 -- ---- places
@@ -72,15 +72,12 @@ pub record AreNamed (each : Each) (names : List Text) (vs : List Value) (i : ℕ
   pub numbers_are : numbers ≡ numbers_of names before
   pub place : i ≡ length before
 
-pub none-named : (each : Each) (names : List Text) (vs : List Value) → AreNamed each names vs 0 []
-none-named each names vs = record { before = []; seen = seen-none each vs; numbers_are = refl; place = refl }
-
 pub one-named : (each : Each) (names : List Text) (vs : List Value) (i : ℕ) (v : Value) (numbers new : List ℕ) (n : ℕ) (a : AreNamed each names vs i numbers) → i < length vs → v ≡ get_or vs i v
-    → first_of (each a.before (view v)) ≡ None → number_of names (view v) ≡ Some n → new ≡ numbers ++ n ∷ [] → AreNamed each names vs (i + 1) new
+    → first_of (each a.before (view v)) ≡ None → number_named names (view v) ≡ Some n → new ≡ numbers ++ n ∷ [] → AreNamed each names vs (i + 1) new
 one-named each names vs i v numbers new n a lt at passes found more = record {
   before = a.before ++ view v ∷ [];
   seen = seen-more each vs i v a.before a.seen lt at passes;
-  numbers_are = more ∙ rw a.numbers_are (sym (filter_map-append (number_of names) a.before (view v ∷ []) ∙ rw found refl));
+  numbers_are = more ∙ rw a.numbers_are (sym (filter_map-append (number_named names) a.before (view v ∷ []) ∙ rw found refl));
   place = omega (arith, a.place, length-append a.before (view v ∷ []));
 }
 
@@ -96,18 +93,18 @@ all-named each names vs i numbers a h =
 
 -- ---- the checks of one element
 
-pub name-stops : (names : List Text) (item first j : ℕ) (before : List Data) (d : Data) (refusal : Refusal) → number_of names d ≡ None → j ≡ length before → refusal ≡ refused UNKNOWN_ENTRY_NAME item (first + j + 1)
+pub name-stops : (names : List Text) (item first j : ℕ) (before : List Data) (d : Data) (refusal : Refusal) → number_named names d ≡ None → j ≡ length before → refusal ≡ refused UNKNOWN_ENTRY_NAME item (first + j + 1)
     → first_of (name_checks names item first before d) ≡ Some refusal
 name-stops names item first j before d refusal none at is = rw (none, is, at) refl
 
-pub name-passes : (names : List Text) (item first n : ℕ) (before : List Data) (d : Data) → number_of names d ≡ Some n → first_of (name_checks names item first before d) ≡ None
+pub name-passes : (names : List Text) (item first n : ℕ) (before : List Data) (d : Data) → number_named names d ≡ Some n → first_of (name_checks names item first before d) ≡ None
 name-passes names item first n before d some = rw some refl
 
-pub order-stops : (r : RosterData) (item p j : ℕ) (named : List ℕ) (number : Option ℕ) (before : List Data) (d : Data) (refusal : Refusal) → fits r p named number ≡ false → named ≡ numbers_of r.hospitals before → number ≡ number_of r.hospitals d
+pub order-stops : (r : RosterData) (item p j : ℕ) (named : List ℕ) (number : Option ℕ) (before : List Data) (d : Data) (refusal : Refusal) → fits r p named number ≡ false → named ≡ numbers_of r.hospitals before → number ≡ number_named r.hospitals d
     → j ≡ length before → refusal ≡ refused WRONG_ORDER item (j + 1) → first_of (order_element_checks r item p before d) ≡ Some refusal
 order-stops r item p j named number before d refusal bad names found at is = rw (← names, ← found, bad, is, at) refl
 
-pub order-passes : (r : RosterData) (item p : ℕ) (named : List ℕ) (number : Option ℕ) (before : List Data) (d : Data) → fits r p named number ≡ true → named ≡ numbers_of r.hospitals before → number ≡ number_of r.hospitals d
+pub order-passes : (r : RosterData) (item p : ℕ) (named : List ℕ) (number : Option ℕ) (before : List Data) (d : Data) → fits r p named number ≡ true → named ≡ numbers_of r.hospitals before → number ≡ number_named r.hospitals d
     → first_of (order_element_checks r item p before d) ≡ None
 order-passes r item p named number before d good names found = rw (← names, ← found, good) refl
 

@@ -1,8 +1,7 @@
 -- The entries of hospitals, read one after another.
 use Rattle.std.proofs.Common.{◌≡◌, ◌∙◌, ◌+◌, ◌-◌, ◌<◌, ◌≤◌, ◌==◌, ℕ, zero, suc, ℤ, true, List, [], ◌∷◌, ◌++◌, length, get_or, set, map, replicate, position, Option, Some, None, option_map, inl, inr, refl, ap, sym, arith, length-append}
-use Rattle.std.specs.Prelude.{slice_get}
 use Rattle.std.proofs.lemmas.Bool.{eq-eqb, ne_eqb, cases_eq}
-use Rattle.std.proofs.lemmas.List.{length-map, map_push, length-set, length-replicate, get_or-replicate, get_or-set_same, get_or-set_other, get_or-map, get_or_append_left, get_or_past, ext_get_or}
+use Rattle.std.proofs.lemmas.List.{length-map, map_push, length-set, length-replicate, get_or-replicate, get_or-set_same, get_or-set_other, get_or-map, get_or_append_left, ext_get_or}
 use Rattle.std.proofs.Math.Seq.{get_or-append_seam}
 use Rattle.std.proofs.lemmas.Option.{slice_get-get_or}
 use Rattle.std.proofs.lemmas.List.Elements.{filter_map-append}
@@ -17,7 +16,7 @@ use Rattle.rm_base.specs.declared.Refusal.{Refusal}
 use Rattle.rm_base.proofs.FirstPlaces.{position_push, kept}
 use Rattle.rm_roster.specs.Roster.{RosterData}
 use Rattle.rm_policy.specs.Entries.{name_in}
-use Rattle.rm_policy.specs.Hospitals.{entry_of, found_checks, hospital_checks, hospital_checks_after, hospital_shape_checks, hospital_steps_of, hospitals_of, steps_in, steps_of_hospital}
+use Rattle.rm_policy.specs.Hospitals.{entry_of, found_checks, hospital_checks, hospital_checks_after, hospital_shape_checks, hospital_steps_of, hospitals_with_entries, steps_in, steps_of_hospital}
 use Rattle.rm_policy.specs.HospitalAnswers.{steps_at}
 use Rattle.rm_policy.proofs.ElementLemmas.{AreSeen, seen-none, seen-more, seen-stop, seen-all, place_lt}
 
@@ -29,7 +28,7 @@ item_of first place = option_map (λ k. first + (k + 1)) place
 pub record AreHospitals (r : RosterData) (first : ℕ) (vs : List Value) (k : ℕ) (items : List (Option ℕ)) (steps : List (List ℤ)) : Type 0 where
   pub before : List Data
   pub seen : AreSeen (hospital_checks_after r first) vs k before
-  pub known : length (hospitals_of r before) ≡ length before
+  pub known : length (hospitals_with_entries r before) ≡ length before
   pub size : length items ≡ length r.hospitals
   pub items_are : (h : ℕ) → h < length r.hospitals → get_or items h None ≡ item_of first (entry_of r before h)
   pub steps_are : steps ≡ map steps_in before
@@ -62,7 +61,7 @@ pub hospitals-stop : (r : RosterData) (first : ℕ) (vs : List Value) (k : ℕ) 
     → first_of (hospital_checks r (λ h. get_or items h None) (first + (k + 1)) (view v)) ≡ Some refusal → first_of (checks_of (hospital_checks_after r first) (map view vs)) ≡ Some refusal
 hospitals-stop r first vs k v items steps refusal a lt at some = seen-stop (hospital_checks_after r first) vs k v a.before refusal a.seen lt at (sym (hospital-at r first vs k items steps (view v) a) ∙ some)
 
-keys-more : (r : RosterData) (before : List Data) (d : Data) (c : ℕ) → place_of r.hospitals (name_in d) ≡ Some c → hospitals_of r (before ++ d ∷ []) ≡ hospitals_of r before ++ c ∷ []
+keys-more : (r : RosterData) (before : List Data) (d : Data) (c : ℕ) → place_of r.hospitals (name_in d) ≡ Some c → hospitals_with_entries r (before ++ d ∷ []) ≡ hospitals_with_entries r before ++ c ∷ []
 keys-more r before d c e = filter_map-append (λ x. place_of r.hospitals (name_in x)) before (d ∷ []) ∙ rw e refl
 
 no-item : (first : ℕ) (o : Option ℕ) → item_of first o ≡ None → o ≡ None
@@ -73,7 +72,7 @@ pub hospitals-more : (r : RosterData) (first : ℕ) (vs : List Value) (k : ℕ) 
     → first_of (hospital_checks r (λ h. get_or items h None) (first + (k + 1)) (view v)) ≡ None → place_of r.hospitals (name_in (view v)) ≡ Some c → get_or items c None ≡ None → s ≡ steps_in (view v)
     → new ≡ set items c (Some (first + (k + 1))) → new_steps ≡ steps ++ s ∷ [] → AreHospitals r first vs (k + 1) new new_steps
 hospitals-more r first vs k v items new steps new_steps c s a lt at passes found unmarked steps_is is more =
-    let keys = hospitals_of r a.before in
+    let keys = hospitals_with_entries r a.before in
     let keys_are = keys-more r a.before (view v) c found in
     let here : c < length r.hospitals = place_lt (bytes_eq (name_in (view v))) r.hospitals c found in
     let in_items : c < length items = omega (arith, here, a.size) in
@@ -122,7 +121,7 @@ pub hospitals-all : (r : RosterData) (first : ℕ) (vs : List Value) (k : ℕ) (
 hospitals-all r first vs k items steps a h =
     let done = seen-all (hospital_checks_after r first) vs k a.before a.seen h in
     let n = length r.hospitals in
-    let keys = hospitals_of r a.before in
+    let keys = hospitals_with_entries r a.before in
     let size : length (map (steps_at steps first) items) ≡ n = length-map items (steps_at steps first) ∙ a.size in
     let other_size : length (map (steps_of_hospital r a.before) (all_below n (λ x. true))) ≡ n = length-map (all_below n (λ x. true)) (steps_of_hospital r a.before) ∙ below-length n in
     let each : (x : ℕ) → x < n → get_or (map (steps_at steps first) items) x None ≡ get_or (map (steps_of_hospital r a.before) (all_below n (λ y. true))) x None =
@@ -137,19 +136,3 @@ hospitals-all r first vs k items steps a h =
       ext_get_or None (map (steps_at steps first) items) (map (steps_of_hospital r a.before) (all_below n (λ y. true))) (size ∙ sym other_size) (λ x lt. each x (omega (arith, lt, size)))
           ∙ ap (hospital_steps_of r) (sym done.1),
     )
-
--- what is at hospital h, whose item is i
-pub steps-get : (items : List (Option ℕ)) (steps : List (List ℤ)) (first h i : ℕ) (o : Option (List ℤ)) (all : List (Option (List ℤ))) → map (steps_at steps first) items ≡ all → h < length items → get_or items h None ≡ Some i
-    → slice_get steps (i - (first + 1)) ≡ o → o ≡ get_or all h None
-steps-get items steps first h i o all same lt found is =
-    sym (ap (λ (l : List (Option (List ℤ))). get_or l h None) (sym same) ∙ get_or-map (steps_at steps first) items h None None lt ∙ rw found is)
-
--- hospital h has no item
-pub steps-none : (items : List (Option ℕ)) (steps : List (List ℤ)) (first h : ℕ) (all : List (Option (List ℤ))) → map (steps_at steps first) items ≡ all → h < length items → get_or items h None ≡ None → None ≡ get_or all h None
-steps-none items steps first h all same lt found =
-    sym (ap (λ (l : List (Option (List ℤ))). get_or l h None) (sym same) ∙ get_or-map (steps_at steps first) items h None None lt ∙ rw found refl)
-
--- hospital h is past the end
-pub steps-past : (items : List (Option ℕ)) (steps : List (List ℤ)) (first h : ℕ) (all : List (Option (List ℤ))) → map (steps_at steps first) items ≡ all → length items ≤ h → None ≡ get_or all h None
-steps-past items steps first h all same le =
-    sym (ap (λ (l : List (Option (List ℤ))). get_or l h None) (sym same) ∙ get_or_past (map (steps_at steps first) items) h None (omega (arith, le, length-map items (steps_at steps first))))

@@ -8,10 +8,10 @@ use Rattle.std.proofs.lemmas.List.Folds.{list_all_more, list_all_at}
 use Rattle.toml.specs.Data.{Data}
 use Rattle.toml.specs.View.{view, items_of}
 use Rattle.toml.specs.declared.value.Value.{Value}
-use Rattle.rm_policy.specs.Values.{list_of, has_shape}
+use Rattle.rm_policy.specs.Values.{data_in, has_shape}
 use Rattle.rm_policy.specs.declared.values.Shape.{Shape}
 
-pub list_of_items : (ds : List Data) → list_of (items_of ds) ≡ ds
+pub list_of_items : (ds : List Data) → data_in (items_of ds) ≡ ds
 list_of_items [] = refl
 list_of_items (d ∷ ds) = ap (λ (l : List Data). d ∷ l) (list_of_items ds)
 

@@ -62,12 +62,12 @@ name_in e = unwrap_or (read_at as_str key.Name e) []
 -- ---- arrays of names
 
 -- the number of the name that an element holds
-abbrev pub number_of : List Text → Data → Option ℕ
-number_of names d = option_and_then (place_of names) (as_str d)
+abbrev pub number_named : List Text → Data → Option ℕ
+number_named names d = option_and_then (place_of names) (as_str d)
 
 abbrev pub numbers_of : List Text → List Data → List ℕ
-numbers_of names ds = filter_map (number_of names) ds
+numbers_of names ds = filter_map (number_named names) ds
 
 -- an element must hold a known name; so many elements of the entry stand before its array
 abbrev pub name_checks : List Text → ℕ → ℕ → List Data → Data → List (Option Refusal)
-name_checks names i first before d = check (is_none (number_of names d)) (refused UNKNOWN_ENTRY_NAME i (first + length before + 1)) ∷ []
+name_checks names i first before d = check (is_none (number_named names d)) (refused UNKNOWN_ENTRY_NAME i (first + length before + 1)) ∷ []

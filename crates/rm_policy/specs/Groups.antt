@@ -1,17 +1,17 @@
 -- The entries of groups.
-use Rattle.std.specs.Prelude.{ℕ, ◌+◌, Bool, true, false, not, ◌&&◌, ◌||◌, nat_lt, List, [], ◌∷◌, ◌++◌, length, map, get_or, fold, ℤ, Option, option_map, if◌then◌else◌}
+use Rattle.std.specs.Prelude.{ℕ, ◌+◌, Bool, false, not, ◌&&◌, ◌||◌, nat_lt, List, [], ◌∷◌, ◌++◌, length, map, get_or, fold, ℤ, Option, option_map, if◌then◌else◌}
 use Rattle.std.specs.List.{list_any}
 use Rattle.std.specs.Option.{option_map_or}
 use Rattle.toml.specs.Data.{Data, as_str}
-use Rattle.rm_sets.specs.Sets.{has, all_below}
+use Rattle.rm_sets.specs.Sets.{has, all_below, below}
 use Rattle.rm_base.specs.Checks.{check, checks_of}
-use Rattle.rm_base.specs.Names.{place_of}
+use Rattle.rm_base.specs.Names.{is_name, place_of}
 use Rattle.rm_base.specs.Text.{Text}
 use Rattle.rm_base.specs.declared.Refusal.{Refusal}
 use Rattle.rm_base.specs.declared.codes.TheConstants.{REPEATED_ENTRY, TOO_MANY_ITEMS, MOST_GROUPS, GROUPS_LIMIT}
 use Rattle.rm_market.specs.Steps.{steps_of}
 use Rattle.rm_roster.specs.Roster.{RosterData}
-use Rattle.rm_policy.specs.Values.{cap, runs, texts, is_name}
+use Rattle.rm_policy.specs.Values.{cap, runs, texts}
 use Rattle.rm_policy.specs.Entries.{refused, bad_value, is_present, is_bad, read_at, optional, list_at, only_keys, name_in, numbers_of, name_checks}
 use Rattle.rm_policy.specs.Steps.{cap_in, flat, runs_in, step_checks}
 use Rattle.rm_policy.specs.Prefectures.{hospitals_in, members_of_prefecture, order_in}
@@ -94,8 +94,8 @@ abbrev pub with_entry : GroupsData → Text → List ℕ → List ℤ → Groups
 with_entry g name members steps = record { names = g.names ++ name ∷ []; members = g.members ++ members ∷ []; steps = g.steps ++ steps ∷ [] }
 
 -- groups after groups
-abbrev pub joined : GroupsData → GroupsData → GroupsData
-joined g more = record { names = g.names ++ more.names; members = g.members ++ more.members; steps = g.steps ++ more.steps }
+abbrev pub groups_joined : GroupsData → GroupsData → GroupsData
+groups_joined g more = record { names = g.names ++ more.names; members = g.members ++ more.members; steps = g.steps ++ more.steps }
 
 -- h lies in one of the sets of these numbers
 abbrev pub lies_in : ℕ → List (List ℕ) → List ℕ → Bool
@@ -103,7 +103,7 @@ lies_in h sets numbers = list_any (λ n. has h (get_or sets n [])) numbers
 
 -- the hospitals of each prefecture
 abbrev pub by_prefecture : RosterData → List (List ℕ)
-by_prefecture r = map (hospitals_in r) (all_below (length r.prefectures) (λ p. true))
+by_prefecture r = map (hospitals_in r) (below (length r.prefectures))
 
 -- h is named, or lies in a prefecture that is named, or in an earlier group that is named
 abbrev pub is_member : RosterData → GroupsData → Data → ℕ → Bool

@@ -1,7 +1,7 @@
 -- The entries of hospitals.
-use Rattle.std.specs.Prelude.{ℕ, true, ◌+◌, ◌==◌, nat_lt, List, [], ◌∷◌, ◌++◌, length, map, filter_map, get_or, slice_index, position, ℤ, Option, Some, None, option_map}
+use Rattle.std.specs.Prelude.{ℕ, ◌+◌, ◌==◌, nat_lt, List, [], ◌∷◌, ◌++◌, length, map, filter_map, get_or, slice_index, position, ℤ, Option, Some, None, option_map}
 use Rattle.toml.specs.Data.{Data, as_str}
-use Rattle.rm_sets.specs.Sets.{all_below}
+use Rattle.rm_sets.specs.Sets.{below}
 use Rattle.rm_base.specs.Checks.{check}
 use Rattle.rm_base.specs.Names.{place_of}
 use Rattle.rm_base.specs.declared.Refusal.{Refusal}
@@ -40,12 +40,12 @@ abbrev pub hospital_checks : RosterData → (ℕ → Option ℕ) → ℕ → Dat
 hospital_checks r former i e = hospital_shape_checks i e ++ found_checks r former i e (place_of r.hospitals (name_in e))
 
 -- the hospitals of entries
-abbrev pub hospitals_of : RosterData → List Data → List ℕ
-hospitals_of r entries = filter_map (λ e. place_of r.hospitals (name_in e)) entries
+abbrev pub hospitals_with_entries : RosterData → List Data → List ℕ
+hospitals_with_entries r entries = filter_map (λ e. place_of r.hospitals (name_in e)) entries
 
 -- the place among entries of the first that names h
 abbrev pub entry_of : RosterData → List Data → ℕ → Option ℕ
-entry_of r entries h = position (λ n. n == h) (hospitals_of r entries)
+entry_of r entries h = position (λ n. n == h) (hospitals_with_entries r entries)
 
 -- the checks of an entry, where so many items and these entries stand before it
 abbrev pub hospital_checks_after : RosterData → ℕ → List Data → Data → List (Option Refusal)
@@ -57,4 +57,4 @@ abbrev pub steps_of_hospital : RosterData → List Data → ℕ → Option (List
 steps_of_hospital r entries h = option_map (λ k. get_or (map steps_in entries) k []) (entry_of r entries h)
 
 abbrev pub hospital_steps_of : RosterData → List Data → List (Option (List ℤ))
-hospital_steps_of r entries = map (steps_of_hospital r entries) (all_below (length r.hospitals) (λ h. true))
+hospital_steps_of r entries = map (steps_of_hospital r entries) (below (length r.hospitals))

@@ -17,7 +17,7 @@ use Rattle.rm_policy.specs.Values.{pair, pairs}
 use Rattle.rm_policy.specs.Entries.{refused, list_at}
 use Rattle.rm_policy.specs.Top.{top_checks, kind_in, ties_in, prefecture_entries, group_entries, hospital_entries}
 use Rattle.rm_policy.specs.Prefectures.{prefecture_checks_after}
-use Rattle.rm_policy.specs.Groups.{GroupsData, group_checks_after, groups_of, joined, no_groups, prefectures_of}
+use Rattle.rm_policy.specs.Groups.{GroupsData, group_checks_after, groups_of, groups_joined, no_groups, prefectures_of}
 use Rattle.rm_policy.specs.Hospitals.{hospital_checks_after, hospital_steps_of}
 use Rattle.rm_policy.specs.declared.Kind.{Kind}
 use Rattle.rm_policy.specs.declared.Kind.TheVariants as kinds
@@ -72,7 +72,7 @@ policy_of r d =
       kind = kind_in d;
       ties = ties_in d;
       listed = listed_pairs r (list_at pairs key.Listed d);
-      groups = joined (prefectures_of r (prefecture_entries d)).groups (groups_of r (group_entries d));
+      groups = groups_joined (prefectures_of r (prefecture_entries d)).groups (groups_of r (group_entries d));
       orders = (prefectures_of r (prefecture_entries d)).orders;
       hospital_steps = hospital_steps_of r (hospital_entries d);
     }

@@ -11,7 +11,7 @@ use Rattle.rm_base.specs.declared.Refusal.{Refusal}
 use Rattle.rm_base.specs.declared.codes.TheConstants.{UNKNOWN_ENTRY_NAME, REPEATED_ENTRY, WRONG_ORDER, TARGETS_ABOVE_CAP, TOO_MANY_ITEMS, MOST_GROUPS, GROUPS_LIMIT}
 use Rattle.rm_roster.specs.Roster.{RosterData}
 use Rattle.rm_policy.specs.Values.{cap, texts}
-use Rattle.rm_policy.specs.Entries.{refused, read_at, required, optional, only_keys, name_in, number_of, numbers_of}
+use Rattle.rm_policy.specs.Entries.{refused, read_at, required, optional, only_keys, name_in, number_named, numbers_of}
 use Rattle.rm_policy.specs.Steps.{cap_in}
 use Rattle.rm_policy.specs.Top.{is_flexible}
 use Rattle.rm_policy.specs.declared.Kind.{Kind}
@@ -34,7 +34,7 @@ fits r p named number = option_map_or (λ h. (slice_index r.prefecture_of h == p
 
 abbrev pub order_element_checks : RosterData → ℕ → ℕ → List Data → Data → List (Option Refusal)
 order_element_checks r i p before d =
-    check (not (fits r p (numbers_of r.hospitals before) (number_of r.hospitals d))) (refused WRONG_ORDER i (length before + 1)) ∷ []
+    check (not (fits r p (numbers_of r.hospitals before) (number_named r.hospitals d))) (refused WRONG_ORDER i (length before + 1)) ∷ []
 
 -- a hospital of the prefecture is not among these
 abbrev pub is_missing : List ℕ → List ℕ → Bool

@@ -27,10 +27,10 @@ abbrev pub is_flexible : Kind → Bool
 is_flexible kinds.Flexible = true
 is_flexible kinds.Steps = false
 
-abbrev pub is_listed : Ties → Bool
-is_listed tie.Listed = true
-is_listed tie.ByRank = false
-is_listed tie.ByHospital = false
+abbrev pub are_listed : Ties → Bool
+are_listed tie.Listed = true
+are_listed tie.ByRank = false
+are_listed tie.ByHospital = false
 
 -- a key that is there and may not be
 abbrev pub only_where : Bool → Key → Data → Option Refusal
@@ -38,7 +38,7 @@ only_where allowed k d = check (not allowed && is_present k d) (refused KEY_NOT_
 
 -- a list of ties is required where the ties are listed, and its shape is checked in any case
 abbrev pub listed_check : Ties → Data → Option Refusal
-listed_check t d = if is_listed t then required pairs key.Listed 0 d else optional pairs key.Listed 0 d
+listed_check t d = if are_listed t then required pairs key.Listed 0 d else optional pairs key.Listed 0 d
 
 abbrev pub top_checks : Data → List (Option Refusal)
 top_checks d =
@@ -50,7 +50,7 @@ top_checks d =
     ∷ optional tables key.Prefecture 0 d
     ∷ optional tables key.Group 0 d
     ∷ optional tables key.Hospital 0 d
-    ∷ only_where (is_listed (ties_in d)) key.Listed d
+    ∷ only_where (are_listed (ties_in d)) key.Listed d
     ∷ only_where (not (is_flexible (kind_in d))) key.Group d
     ∷ only_where (not (is_flexible (kind_in d))) key.Hospital d
     ∷ []

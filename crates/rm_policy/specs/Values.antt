@@ -1,13 +1,12 @@
 -- What a value of a document says, read by its shape.
-use Rattle.std.specs.Prelude.{ℕ, Bool, not, ◌&&◌, ◌==◌, nat_le, List, [], ◌∷◌, codes, ℤ, pos, negsuc, Option, Some, None, option_and_then, option_map, is_some, if◌then◌else◌}
+use Rattle.std.specs.Prelude.{ℕ, Bool, ◌&&◌, ◌==◌, nat_le, List, [], ◌∷◌, codes, ℤ, pos, negsuc, Option, Some, None, option_and_then, option_map, is_some, if◌then◌else◌}
 use Rattle.std.specs.List.{list_all}
 use Rattle.std.specs.Option.{option_map_or}
 use Rattle.std.specs.Str.{bytes_eq, is_utf8}
-use Rattle.std.specs.Prelude.{length}
 use Rattle.toml.specs.Data.{Data, table, Items, no_items, item, Members, no_members, member, as_str, as_integer, as_array, as_table}
 use Rattle.toml.specs.Parse.{parse_document}
 use Rattle.rm_base.specs.Text.{Text}
-use Rattle.rm_base.specs.declared.codes.TheConstants.{GREATEST_CAP, MOST_NAME_BYTES}
+use Rattle.rm_base.specs.declared.codes.TheConstants.{GREATEST_CAP}
 use Rattle.rm_market.specs.declared.Run.{Run}
 use Rattle.rm_policy.specs.declared.Kind.{Kind}
 use Rattle.rm_policy.specs.declared.Kind.TheVariants as kinds
@@ -22,13 +21,13 @@ document_of bytes = if is_utf8 bytes then option_map table (parse_document bytes
 
 -- ---- arrays and tables
 
-abbrev pub list_of : Items → List Data
-list_of no_items = []
-list_of (item d ds) = d ∷ list_of ds
+abbrev pub data_in : Items → List Data
+data_in no_items = []
+data_in (item d ds) = d ∷ data_in ds
 
 -- the elements of an array
 abbrev pub elements : Data → Option (List Data)
-elements d = option_map list_of (as_array d)
+elements d = option_map data_in (as_array d)
 
 abbrev pub keys_in : Members → List Text
 keys_in no_members = []
@@ -39,14 +38,6 @@ abbrev pub keys_of : Data → List Text
 keys_of d = option_map_or keys_in (as_table d) []
 
 -- ---- texts
-
--- no control character
-abbrev pub is_printed : ℕ → Bool
-is_printed c = nat_le 0x20 c && not (c == 0x7F)
-
--- 1 to 64 bytes, none of them a control character
-abbrev pub is_name : Text → Bool
-is_name text = nat_le 1 (length text) && nat_le (length text) MOST_NAME_BYTES && list_all is_printed text
 
 abbrev pub kind_named : Text → Option Kind
 kind_named text =

@@ -5,7 +5,7 @@ ghost use Rattle.toml.specs.View.{view};
 ghost use Rattle.rm_sets.specs.Sets.{has};
 ghost use Rattle.rm_base.specs.Checks.{check, checks_of, first_of};
 ghost use Rattle.rm_policy.specs.Answers.{ReadsNumbers};
-ghost use Rattle.rm_policy.specs.Entries.{name_checks, number_of, numbers_of};
+ghost use Rattle.rm_policy.specs.Entries.{name_checks, number_named, numbers_of};
 ghost use Rattle.rm_policy.specs.Prefectures.{fits, hospitals_in, order_checks, order_element_checks};
 
 use crate::entries::refused;
@@ -19,7 +19,7 @@ use toml::Value;
 // The number of the name that an element holds.
 #[tactic(auto, using(crate::proofs::ElementLemmas::place_below))]
 fn number_of(value: &Value, names: &Names) -> Option<u32>
-    ensures number { result ≡ number_of names.now (view value.now) }
+    ensures number { result ≡ number_named names.now (view value.now) }
     ensures below { IfSome result (λ n. n < length names.now) }
 {
     match value.as_str() {

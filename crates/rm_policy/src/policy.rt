@@ -4,7 +4,7 @@ ghost use Rattle.std.specs.Prelude.{◌≡◌, ◌<◌, ◌≤◌, ◌+◌, ◌+
 ghost use Rattle.toml.specs.View.{view};
 ghost use Rattle.rm_base.specs.Checks.{first_of};
 ghost use Rattle.rm_base.specs.Reading.{Reads, Stops};
-ghost use Rattle.rm_policy.specs.Groups.{joined, no_groups};
+ghost use Rattle.rm_policy.specs.Groups.{groups_joined, no_groups};
 ghost use Rattle.rm_policy.specs.Policy.{plain, policy_checks, policy_of, IsPolicy, ReadsDocument, ReadsEntries, ReadsPolicy};
 ghost use Rattle.rm_policy.specs.Values.{document_of};
 
@@ -55,7 +55,7 @@ impl AllGroups {
 
     // Groups, and then groups.
     fn join(mut prefectures: Groups, mut groups: Groups) -> Result<AllGroups, NoMemory>
-        ensures { IfOk result (λ all. all ≡ joined prefectures groups) }
+        ensures { IfOk result (λ all. all ≡ groups_joined prefectures groups) }
     {
         prefectures.members.append(&mut groups.members)?;
         prefectures.steps.append(&mut groups.steps)?;

@@ -6,7 +6,7 @@ ghost use Rattle.toml.specs.View.{view};
 ghost use Rattle.rm_policy.specs.Entries.{refused, is_present, list_at, read_at};
 ghost use Rattle.rm_policy.specs.Keys.{key_number};
 ghost use Rattle.rm_policy.specs.Values.{kind, pairs, version};
-ghost use Rattle.rm_policy.specs.Top.{is_flexible, is_listed, listed_check, top_checks};
+ghost use Rattle.rm_policy.specs.Top.{is_flexible, are_listed, listed_check, top_checks};
 ghost use Rattle.rm_policy.specs.Answers.{ReadsList, ReadsTies, ReadsTop};
 
 use crate::entries::{Found, array_at, bad_value, has_only, is_present, list_at, refused};
@@ -73,8 +73,8 @@ fn listed_at(top: &Value, ties: Ties) -> Result<&[Value], Refusal>
 }
 
 // Whether the ties are listed.
-fn is_listed(ties: Ties) -> bool
-    ensures { result ≡ is_listed ties }
+fn are_listed(ties: Ties) -> bool
+    ensures { result ≡ are_listed ties }
 {
     match ties {
         Ties::Listed => true,
@@ -150,7 +150,7 @@ pub fn read_top(top: &Value) -> Result<Top<'_>, Refusal>
         Ok(values) => values,
         Err(refusal) => return Err(refusal),
     };
-    if is_wrong(top, Key::Listed, is_listed(ties)) {
+    if is_wrong(top, Key::Listed, are_listed(ties)) {
         return Err(not_for_kind(Key::Listed));
     }
     if is_wrong(top, Key::Group, !is_flexible(kind)) {

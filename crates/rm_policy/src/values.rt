@@ -1,16 +1,16 @@
 // Values of a document, read by their shapes.
 
-ghost use Rattle.std.specs.Prelude.{◌≡◌, ◌≤◌, Option, List, Some, None, map, option_map, option_and_then, is_some, IfSome};
+ghost use Rattle.std.specs.Prelude.{◌≡◌, ◌≤◌, Some, None, map, option_map, is_some, IfSome};
 ghost use Rattle.std.specs.List.{list_all};
 ghost use Rattle.toml.specs.Data.{as_str, as_integer};
 ghost use Rattle.toml.specs.View.{view};
 ghost use Rattle.rm_policy.specs.Entries.{value_at};
 ghost use Rattle.rm_policy.specs.Answers.{ReadsPair};
-ghost use Rattle.rm_policy.specs.Values.{elements, elements_of, has_shape, pair, run, run_in, run_with, kind, kind_named, ties, ties_named, version, version_numbered, cap, up_to, is_name, is_printed};
+ghost use Rattle.rm_policy.specs.Values.{elements, elements_of, has_shape, pair, run, run_with, kind, kind_named, ties, ties_named, version, version_numbered, cap, up_to};
 
 use crate::keys::Key;
 use crate::{Kind, Ties};
-use rm_base::codes::{GREATEST_CAP, MOST_NAME_BYTES};
+use rm_base::codes::GREATEST_CAP;
 use rm_market::Run;
 use toml::Value;
 
@@ -42,30 +42,6 @@ pub fn elements(value: &Value) -> Option<&[Value]>
         Some(array) => Some(array.as_slice()),
         None => None,
     }
-}
-
-// Whether a byte is no control character.
-fn is_printed(c: u8) -> bool
-    ensures { result ≡ is_printed c }
-{
-    0x20 <= c && c != 0x7F
-}
-
-// Whether no byte is a control character.
-fn all_printed(text: &[u8]) -> bool
-    ensures { result ≡ list_all is_printed text.now }
-{
-    text.iter().all(|c| is_printed(*c))
-}
-
-/// Whether a text may be a name: 1 to 64 bytes, none of them a control character.
-pub fn is_name(text: &str) -> bool
-    ensures { result ≡ is_name text.now }
-{
-    if text.len() < 1 || text.len() > MOST_NAME_BYTES {
-        return false;
-    }
-    all_printed(text.as_bytes())
 }
 
 // The kind of this name.

@@ -5,7 +5,7 @@ use Rattle.rm_base.specs.Checks.{first_of}
 use Rattle.rm_base.proofs.Stopping.{stops-on}
 use Rattle.rm_policy.specs.Policy.{entry_checks, policy_checks}
 use Rattle.rm_policy.specs.Top.{group_entries, hospital_entries, kind_in, prefecture_entries}
-use Rattle.rm_policy.proofs.DocumentLemmas.{top-stops, entries-decide, groups-joined, orders-told, policy-is, policy-even}
+use Rattle.rm_policy.proofs.DocumentLemmas.{top-stops, entries-decide, groups-groups_joined, orders-told, policy-is, policy-even}
 use Rattle.rm_policy.proofs.policy.Policy.of_document.Goals as goal
 
 pub returns-in-Err : goal.returns-in-Err
@@ -27,7 +27,7 @@ invariant_of-result c =
     let gs = map view top.groups.now in
     let e = c.in-Ok-read_entries.ensures.entries in
     let few : length ps + length gs ≤ 5000 = rw (length-map top.prefectures.now view, length-map top.groups.now view) c.in-Ok-read_entries.ensures.few in
-    policy-even r ps gs _ (groups-joined r ps gs _ _ _ _ c.in-Ok-join.ensures c.into_parts-parts.ensures.groups e.1 e.2) (orders-told r ps _ _ c.into_parts-parts.ensures.orders e.1) few
+    policy-even r ps gs _ (groups-groups_joined r ps gs _ _ _ _ c.in-Ok-join.ensures c.into_parts-parts.ensures.groups e.1 e.2) (orders-told r ps _ _ c.into_parts-parts.ensures.orders e.1) few
 
 pub returns : goal.returns
 returns c =
@@ -36,6 +36,6 @@ returns c =
     let t = c.in-Ok.ensures in
     let e = rw (t.1, t.4, t.5, t.6) at c.in-Ok-read_entries.ensures.entries in (
       entries-decide r d t.0 ∙ e.0,
-      policy-is r d _ _ _ _ _ _ t.1 t.2 (rw t.3 at c.in-Ok-read_listed.ensures) (groups-joined r (prefecture_entries d) (group_entries d) _ _ _ _ c.in-Ok-join.ensures c.into_parts-parts.ensures.groups e.1 e.2)
+      policy-is r d _ _ _ _ _ _ t.1 t.2 (rw t.3 at c.in-Ok-read_listed.ensures) (groups-groups_joined r (prefecture_entries d) (group_entries d) _ _ _ _ c.in-Ok-join.ensures c.into_parts-parts.ensures.groups e.1 e.2)
           (orders-told r (prefecture_entries d) _ _ c.into_parts-parts.ensures.orders e.1) e.3,
     )
