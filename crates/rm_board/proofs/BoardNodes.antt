@@ -4,8 +4,8 @@ use Rattle.std.proofs.lemmas.Bool.{cases_lt}
 use Rattle.std.proofs.lemmas.List.{length-map, get_or-map, get_or_append_left, get_or-append_right}
 use Rattle.rm_sets.specs.Sets.{below}
 use Rattle.rm_sets.proofs.Once.{length-below, get_or-below}
-use Rattle.rm_market.specs.Board.{Node, no_node, node_at, sets_of as sets_of_board}
-use Rattle.rm_market.specs.Tree.{TreeOf, sets_of, tree_sets}
+use Rattle.rm_market.specs.Board.{Node, no_node, node_at, sets_of}
+use Rattle.rm_market.specs.Tree.{TreeOf, sets_of_tree, tree_sets}
 use Rattle.rm_board_laws.specs.HospitalBoards.{hospital_nodes, group_nodes}
 use Rattle.rm_board_laws.proofs.HospitalBoards.{accepted_trees}
 use Rattle.rm_board.specs.Boards.{board_of}
@@ -27,7 +27,7 @@ group-steps (g ∷ groups) [] j same lt = absurd (omega arith)
 group-steps (g ∷ groups) (s ∷ steps) zero same lt = refl
 group-steps (g ∷ groups) (s ∷ steps) (suc j) same lt = group-steps groups steps j (omega arith) (omega arith)
 
-module _ (ranks : List (List ℕ)) (tree : TreeOf) (steps : List (List ℤ)) (ties : List ℕ) (hospitals : length ranks ≡ tree.hospitals) (nodes : length steps ≡ length (sets_of tree)) where
+module _ (ranks : List (List ℕ)) (tree : TreeOf) (steps : List (List ℤ)) (ties : List ℕ) (hospitals : length ranks ≡ tree.hospitals) (nodes : length steps ≡ length (sets_of_tree tree)) where
   rest : length tree.groups ≡ length (drop tree.hospitals steps)
   rest = omega (arith, nodes, length-append (map (λ h. h ∷ []) (below tree.hospitals)) tree.groups, length-map {B = List ℕ} (below tree.hospitals) (λ h. h ∷ []), length-below tree.hospitals, length-drop tree.hospitals steps)
 
@@ -58,5 +58,5 @@ module _ (ranks : List (List ℕ)) (tree : TreeOf) (steps : List (List ℤ)) (ti
             sym (ap (λ (n : Node). n.steps) e ∙ g ∙ get_or-drop tree.hospitals steps (k - length ranks) [] ∙ ap (λ (j : ℕ). get_or steps j []) i)
       ]
 
-  pub node-sets : sets_of tree ≡ sets_of_board (board_of ranks tree steps ties)
+  pub node-sets : sets_of_tree tree ≡ sets_of (board_of ranks tree steps ties)
   node-sets = sym (accepted_trees ranks (λ h. get_or steps h []) tree.groups (drop tree.hospitals steps) ties rest ∙ ap (λ (n : ℕ). tree_sets n tree.groups) hospitals)

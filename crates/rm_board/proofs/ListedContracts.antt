@@ -4,9 +4,9 @@ use Rattle.std.specs.List.{enumerate_from}
 use Rattle.std.proofs.lemmas.Bool.{cases_lt, cases_eq}
 use Rattle.std.proofs.lemmas.List.{append-nil, take_more, set-set, get_or-set_same, get_or-set_other, get_or-replicate, get_or_past, length-replicate, ext_get_or}
 use Rattle.std.proofs.lemmas.List.Elements.{filter_map-append}
+use Rattle.rm_market.specs.Market.{listed_of}
 use Rattle.rm_market.specs.Board.{pairs_of, number_of}
 use Rattle.rm_ranks.specs.Built.{ListsTold, with_items}
-use Rattle.rm_board.specs.Numbers.{listed_of}
 use Rattle.rm_board.specs.Listed.{AddsList}
 
 -- ---- one contract more

@@ -15,14 +15,13 @@ use Rattle.rm_sets.proofs.Once.{once_append, distinct_from_once}
 use Rattle.std.proofs.lemmas.Map.Steps.{length-le_from_distinct_below}
 use Rattle.rm_base.specs.Checks.{first_of, checks_of}
 use Rattle.rm_base.specs.declared.ListedPair.{ListedPair}
-use Rattle.rm_market.specs.Board.{pairs_of, hospital_of_number}
+use Rattle.rm_market.specs.Board.{pairs_of, hospital_of_number, doctor_of_number}
 use Rattle.rm_market.specs.Ties.{listed_order, listed_fault, missing, contract_of_pair, is_named_by, is_at_hospital_of, is_ranked_below, last_at_hospital_of, element_checks}
 use Rattle.rm_market.specs.declared.BoardFault.{BoardFault}
 use Rattle.rm_market.specs.declared.BoardFault.TheVariants.{Unknown, Repeated, AgainstRank, Missing, NoMemory}
 use Rattle.rm_board.proofs.Numbering.{none-after, shifted}
 use Rattle.rm_board_laws.proofs.Contracts.{pair_in}
 use Rattle.rm_base.proofs.CheckLemmas.{first-none, first-some, AreThrough, through-start, through-more, through-stop, through-end}
-use Rattle.rm_board.specs.Numbers.{doctor_of_number}
 use Rattle.rm_board.specs.ListedElements.{place_of_number, number_if_any, IsWide, IsListing, ReadsElement, ReadsElements, ReadsOrder}
 
 module _ (ranks : List (List ℕ)) (before : List ListedPair) (order named last greatest : List ℕ) (l : IsListing ranks before order named last greatest) where

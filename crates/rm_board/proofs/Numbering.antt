@@ -9,8 +9,8 @@ use Rattle.std.proofs.lemmas.Iterator.Adapters.{position_from-zero}
 use Rattle.std.proofs.lemmas.List.Quantifiers.{position-Some}
 use Rattle.std.proofs.lemmas.List.Sums.{sum_by-cons}
 use Rattle.rm_board_laws.proofs.Contracts.{pair_in}
-use Rattle.rm_market.specs.Board.{pairs_from, pairs_of, number_of}
-use Rattle.rm_board.specs.Numbers.{owners_of_ranks, AreContracts}
+use Rattle.rm_market.specs.Board.{pairs_from, pairs_of, number_of, owners_of_ranks}
+use Rattle.rm_board.specs.Numbers.{AreContracts}
 
 -- the contracts of one rank list
 abbrev pub own : ℕ → List ℕ → List (ℕ × ℕ)
@@ -50,7 +50,7 @@ pub hospitals-more : (ranks : List (List ℕ)) (h : ℕ) → h < length ranks �
 hospitals-more ranks h lt =
     rw (pairs-more ranks h lt, map-append (λ (p : ℕ × ℕ). p.1) (pairs_of (take h ranks)) (own h (get_or ranks h [])), hospitals-own h (get_or ranks h [])) refl
 
-length-own : (h : ℕ) (rank : List ℕ) → length (own h rank) ≡ length rank
+pub length-own : (h : ℕ) (rank : List ℕ) → length (own h rank) ≡ length rank
 length-own h rank = length-map {B = ℕ × ℕ} rank (λ d. (d, h))
 
 pub length-pairs : (s : ℕ) (ranks : List (List ℕ)) → length (pairs_from s ranks) ≡ sum_by length ranks
@@ -110,11 +110,13 @@ number-is ranks d h lt =
     number-from d h 0 0 (length (pairs_of (take h ranks))) h ranks lt (omega arith) (omega arith)
     ∙ ap (option_map (λ i. length (pairs_of (take h ranks)) + i)) (sym (position_from-zero (λ x. x == d) (get_or ranks h [])))
 
-pub number-fits : (ranks : List (List ℕ)) (d h place : ℕ) → h < length ranks → position (λ x. x == d) (get_or ranks h []) ≡ Some place → length (pairs_of (take h ranks)) + place < length (pairs_of ranks)
-number-fits ranks d h place lt there =
-    let within = (position-Some (λ x. x == d) (get_or ranks h []) place 0 there).0 in
+pub number-within : (ranks : List (List ℕ)) (h place : ℕ) → h < length ranks → place < length (get_or ranks h []) → length (pairs_of (take h ranks)) + place < length (pairs_of ranks)
+number-within ranks h place lt within =
     let longer = length-append (pairs_of (take h ranks)) (own h (get_or ranks h [])) in
     omega (arith, within, pairs-front ranks (h + 1), ap length (pairs-more ranks h lt), longer, length-own h (get_or ranks h []))
+
+pub number-fits : (ranks : List (List ℕ)) (d h place : ℕ) → h < length ranks → position (λ x. x == d) (get_or ranks h []) ≡ Some place → length (pairs_of (take h ranks)) + place < length (pairs_of ranks)
+number-fits ranks d h place lt there = number-within ranks h place lt (position-Some (λ x. x == d) (get_or ranks h []) place 0 there).0
 
 -- ---- what finding a contract answers
 

@@ -1,7 +1,7 @@
 -- The board of rank lists, a tree and the steps of its nodes.
 use Rattle.std.specs.Prelude.{◌≡◌, ◌==◌, ℕ, ◌<◌, List, [], ℤ, length, drop, get_or, position, Some, None, Result, Ok, Err}
 use Rattle.rm_market.specs.Board.{Board, IsTieOrder, pairs_of}
-use Rattle.rm_market.specs.Tree.{TreeOf, sets_of}
+use Rattle.rm_market.specs.Tree.{TreeOf, sets_of_tree}
 use Rattle.rm_market.specs.declared.BoardFault.{BoardFault}
 use Rattle.rm_market.specs.declared.BoardFault.TheVariants as fault
 use Rattle.rm_board_laws.specs.HospitalBoards.{hospital_board, group_nodes}
@@ -15,7 +15,7 @@ board_of ranks tree steps ties = hospital_board ranks (λ h. get_or steps h []) 
 -- one rank list for each hospital, steps for each node, a tie order and the place of each contract there
 pub record IsKept (ranks : List (List ℕ)) (tree : TreeOf) (steps : List (List ℤ)) (ties places : List ℕ) : Type 0 where
   pub hospitals : length ranks ≡ tree.hospitals
-  pub nodes : length steps ≡ length (sets_of tree)
+  pub nodes : length steps ≡ length (sets_of_tree tree)
   pub order : IsTieOrder ranks ties
   pub wide : length places ≡ length (pairs_of ranks)
   pub place : (x : ℕ) → x < length (pairs_of ranks) → position (λ y. y == x) ties ≡ Some (get_or places x 0)

@@ -1,14 +1,16 @@
 // The board of a market.
 
-ghost use Rattle.std.specs.Prelude.{◌≡◌, ◌<◌, ◌==◌, length, position, Some};
+ghost use Rattle.std.specs.Prelude.{◌≡◌, ◌<◌, ◌==◌, length, position, Some, All, IfOk};
 ghost use Rattle.std.specs.List.{sum_by};
-ghost use Rattle.rm_market.specs.Board.{contract_count, contract_of, doctor_of, hospital_of, leaf_of, node_at, owners_of, sets_of as sets_of_board};
-ghost use Rattle.rm_market.specs.Tree.{sets_of};
+ghost use Rattle.rm_market.specs.Board.{contract_count, contract_of, doctor_of, hospital_of, leaf_of, node_at, owners_of, sets_of};
+ghost use Rattle.rm_market.specs.Market.{listed_of};
+ghost use Rattle.rm_market.specs.Tree.{sets_of_tree};
 ghost use Rattle.rm_board.specs.Boards.{Builds};
 ghost use Rattle.rm_board.specs.Rules.{AreKnown};
 
-use crate::contracts::Contracts;
+use crate::contracts::{Contracts, NoMemory};
 use crate::ties::{TieRule, places_in, tie_order};
+use crate::wishes::listed;
 use rm_laminar::Tree;
 use rm_market::BoardFault;
 use rm_ranks::Lists;
@@ -50,7 +52,7 @@ impl Board {
         ties: TieRule<'_>,
     ) -> Result<Board, BoardFault>
         requires hospitals { length ranks.now ≡ tree.hospitals }
-        requires steps { length steps.items ≡ length (sets_of tree) }
+        requires steps { length steps.items ≡ length (sets_of_tree tree) }
         requires few { sum_by length ranks.now < 4_000_000_000 }
         requires known { AreKnown (length ranks.now) ties }
         ensures { Builds ranks.now tree steps.items ties.entry result }
@@ -127,10 +129,18 @@ impl Board {
         self.contracts.find(d, h)
     }
 
+    /// Per doctor the contracts at the hospitals of his list, in its order. A hospital that doesn't rank him is passed over.
+    pub fn listed(&self, alloc: Global, lists: &Lists) -> Result<Lists, NoMemory>
+        requires { All (All (λ h. h < length self.now.ranks)) lists.now }
+        ensures { IfOk result (λ listed. listed ≡ listed_of self.now.ranks lists.now) }
+    {
+        listed(alloc, lists, &self.contracts)
+    }
+
     /// The tree of the nodes.
     pub fn tree(&self) -> &Tree
         ensures hospitals { result.now.hospitals ≡ length self.now.ranks }
-        ensures sets { sets_of result.now ≡ sets_of_board self.now }
+        ensures sets { sets_of_tree result.now ≡ sets_of self.now }
     {
         &self.tree
     }

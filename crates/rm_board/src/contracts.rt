@@ -2,8 +2,8 @@
 
 ghost use Rattle.std.specs.Prelude.{◌≡◌, ◌<◌, [], length, get_or, IfOk, IfSome};
 ghost use Rattle.std.specs.List.{sum_by};
-ghost use Rattle.rm_market.specs.Board.{pairs_of, number_of, hospital_of_number};
-ghost use Rattle.rm_board.specs.Numbers.{doctor_of_number, owners_of_ranks};
+ghost use Rattle.rm_market.specs.Board.{pairs_of, number_of, hospital_of_number, doctor_of_number, owners_of_ranks};
+ghost use Rattle.rm_board.specs.Numbers.{number_at};
 
 use rm_ranks::Lists;
 use std::alloc::{AllocError, Global};
@@ -103,6 +103,15 @@ impl Contracts {
     {
         let _ = &self.doctors;
         self.ranks.list(h)
+    }
+
+    // The contract at a place of the rank list of hospital h.
+    pub(crate) fn number(&self, h: u32, place: u32) -> u32
+        requires hospital { h < length self.now }
+        requires place { place < length (get_or self.now h []) }
+        ensures { result ≡ number_at self.now place h }
+    {
+        self.starts[h as usize] + place
     }
 
     /// The contract of doctor d and hospital h; None exactly where h doesn't rank d.

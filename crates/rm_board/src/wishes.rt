@@ -1,8 +1,8 @@
 // The doctors' listed contracts.
 
 ghost use Rattle.std.specs.Prelude.{◌≡◌, ◌<◌, length, filter_map, All, IfOk, OnOk};
+ghost use Rattle.rm_market.specs.Market.{listed_of};
 ghost use Rattle.rm_market.specs.Board.{pairs_of, number_of};
-ghost use Rattle.rm_board.specs.Numbers.{listed_of};
 ghost use Rattle.rm_board.specs.Listed.{AddsList};
 
 use crate::contracts::{Contracts, NoMemory};

@@ -4,7 +4,7 @@ use Rattle.std.proofs.lemmas.List.{length-map}
 use Rattle.rm_sets.specs.Sets.{IsSetBelow}
 use Rattle.rm_sets.proofs.Members.{place_from_IsIn}
 use Rattle.rm_sets.proofs.Once.{length-below}
-use Rattle.rm_market.specs.Tree.{below, sets_of, tree_sets, TreeOf}
+use Rattle.rm_market.specs.Tree.{below, sets_of_tree, tree_sets, TreeOf}
 
 -- consecutive numbers below 10,000 are a set
 pub row-set : (start end : ℕ) (group : List ℕ) → ((k : ℕ) → k < length group → get_or group k 0 ≡ start + k) → ((k : ℕ) → k < length group → start + k < end) → end ≤ 10_000 → IsSetBelow 10_000 group
@@ -24,5 +24,5 @@ nodes-of : (n : ℕ) → length (tree_sets n []) ≡ n
 nodes-of n = omega (arith, length-append (map (λ h. h ∷ []) (below n)) [], length-map {B = List ℕ} (below n) (λ h. h ∷ []), length-below n)
 
 -- a tree without groups has no other nodes
-pub nodes-alone : (t : TreeOf) (n : ℕ) → t ≡ record { hospitals = n; groups = [] } → length (sets_of t) ≡ n
-nodes-alone t n same = ap (λ (u : TreeOf). length (sets_of u)) same ∙ nodes-of n
+pub nodes-alone : (t : TreeOf) (n : ℕ) → t ≡ record { hospitals = n; groups = [] } → length (sets_of_tree t) ≡ n
+nodes-alone t n same = ap (λ (u : TreeOf). length (sets_of_tree u)) same ∙ nodes-of n

@@ -1,7 +1,7 @@
 // The board of a roster without groups.
 
 ghost use Rattle.std.specs.Prelude.{◌≡◌, length, IfSome};
-ghost use Rattle.rm_market.specs.Tree.{sets_of};
+ghost use Rattle.rm_market.specs.Tree.{sets_of_tree};
 
 use rm_board::{Board, TieRule};
 use rm_laminar::Tree;
@@ -28,7 +28,7 @@ fn flat_steps(alloc: Global, roster: &Roster) -> Option<Vec<Steps>>
 // The tree of the hospitals of a roster.
 fn flat_tree(alloc: Global, roster: &Roster) -> Option<Tree>
     ensures hospitals { IfSome result (λ tree. tree.hospitals ≡ length roster.now.hospitals) }
-    ensures nodes { IfSome result (λ tree. length (sets_of tree) ≡ length roster.now.hospitals) }
+    ensures nodes { IfSome result (λ tree. length (sets_of_tree tree) ≡ length roster.now.hospitals) }
 {
     match Tree::build(alloc, roster.hospitals().len(), &[]) {
         Ok(tree) => Some(tree),
