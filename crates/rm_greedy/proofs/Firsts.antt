@@ -12,13 +12,6 @@ use Rattle.rm_valuation_laws.specs.Scores.{place}
 use Rattle.rm_greedy.specs.declared.addition.Addition.{Addition}
 use Rattle.rm_greedy.specs.Additions.{IsAddition, IsNoAddition, IsCandidate, ComesFirst, IsNoBetter, IsFirst, IsFirstOf}
 
-some_same : (b : Bool) (n k : ℕ) → cond b (Some n) None ≡ Some k → n ≡ k
-some_same true n k e = grind rules
-some_same false n k e = grind rules
-
-pub place_is : (ties : List ℕ) (x k : ℕ) → position (λ y. eqb y x) ties ≡ Some k → place ties x ≡ k
-place_is ties x k e = some_same (ltb (position_or_len (λ y. eqb y x) ties) (length ties)) (position_or_len (λ y. eqb y x) ties) k e
-
 -- one of the contracts, or the last
 last_cases : (x y : ℕ) (Y : List ℕ) → IsIn x (Y ++ y ∷ []) → IsIn x Y ⊎ (x ≡ y)
 last_cases x y Y i = ⊎_elim (λ h. inl h) (λ h. ⊎_elim (λ e. inr e) (λ z. absurd (not_in_nil x z)) (IsIn-cases x y [] h)) (IsIn-append_cases Y (y ∷ []) x i)

@@ -2,7 +2,7 @@
 use Rattle.std.proofs.Common.{◌≡◌, ℕ, ◌+◌, ◌≤◌, List, [], length, get_or, set, filter, eqb, None, IsFalse, refl, sym, ap, subst, ⊎_elim, arith, ◌∙◌}
 use Rattle.std.proofs.lemmas.Int.{ints}
 use Rattle.rm_sets.specs.Sets.{has, IsIn, IsSetBelow, with_one}
-use Rattle.rm_sets.proofs.Members.{not_in_from}
+use Rattle.rm_sets.proofs.Members.{not_in_from, IsIn-with_one_old}
 use Rattle.rm_sets.proofs.Sizes.{length-with_one, same_from_length}
 use Rattle.rm_market.specs.Board.{Board, contract_count}
 use Rattle.rm_market.specs.Best.{IsBest, IsValuation, best_of, values_of}
@@ -13,20 +13,26 @@ use Rattle.rm_valuation_laws.proofs.BestOf.{best_of_is}
 use Rattle.rm_valuation_laws.proofs.GreedySteps.{greedy_start, greedy_step, greedy_stop}
 use Rattle.rm_greedy.specs.declared.addition.Addition.{Addition}
 use Rattle.rm_greedy.specs.Additions.{AreMarks, IsFirst, IsFirstOf}
+use Rattle.rm_greedy.specs.Heads.{AreHeads}
 use Rattle.rm_greedy.proofs.Marked.{marked_is, one_marked}
 
--- k contracts are taken, the best so far, and these are their counts and marks
-pub record IsGrowing (b : Board) (X : List ℕ) (k : ℕ) (counts marks : List ℕ) : Type 0 where
+-- k contracts are taken, the best so far, these are their counts and marks, and these heads reach the others
+pub record IsGrowing (b : Board) (X : List ℕ) (k : ℕ) (heads counts marks : List ℕ) : Type 0 where
   pub S : List ℕ
   pub so_far : IsBestSoFar (contract_count b) (values_of b) X S
   pub long : length S ≡ k
   pub counted : AreCounts b S counts
   pub marked : AreMarks X S marks
+  pub reached : AreHeads b X S heads
   pub nodes : length counts ≡ length b.nodes
   pub space : contract_count b ≤ length marks
 
-pub growing_first : (b : Board) (X counts marks : List ℕ) → IsValuation (contract_count b) (values_of b) → AreCounts b [] counts → AreMarks X [] marks → length counts ≡ length b.nodes → contract_count b ≤ length marks → IsGrowing b X 0 counts marks
-growing_first b X counts marks laws c m nodes space = record { S = []; so_far = greedy_start (contract_count b) (values_of b) X laws; long = refl; counted = c; marked = m; nodes = nodes; space = space }
+pub growing_first : (b : Board) (X heads counts marks : List ℕ) → IsValuation (contract_count b) (values_of b) → AreCounts b [] counts → AreMarks X [] marks → AreHeads b X [] heads → length counts ≡ length b.nodes → contract_count b ≤ length marks → IsGrowing b X 0 heads counts marks
+growing_first b X heads counts marks laws c m h nodes space = record { S = []; so_far = greedy_start (contract_count b) (values_of b) X laws; long = refl; counted = c; marked = m; reached = h; nodes = nodes; space = space }
+
+-- where more is taken, the heads reach what is left
+fewer_reached : (b : Board) (X S heads : List ℕ) (x : ℕ) → AreHeads b X S heads → AreHeads b X (with_one S x) heads
+fewer_reached b X S heads x h = record { within = h.within; reach = λ q lt out. h.reach q lt (λ i. out (IsIn-with_one_old S x (get_or X q 0) i)) }
 
 worthiest : (b : Board) (X S : List ℕ) (a : Addition) → IsFirst b S X a → IsWorthiest (values_of b) X S a.contract
 worthiest b X S a f = record {
@@ -37,9 +43,9 @@ worthiest b X S a f = record {
   first = λ y i out fits e. ⊎_elim (λ less. absurd (omega (arith, ints, less, e))) (λ same. let p = same.1 in let t = f.addition.tie in omega (arith, p, t)) (f.first y i out fits);
 }
 
-pub growing_more : (b : Board) (X : List ℕ) (k : ℕ) (counts marks : List ℕ) (a : Addition) (more : List ℕ) → IsValuation (contract_count b) (values_of b) → IsSetBelow (contract_count b) X → (g : IsGrowing b X k counts marks) → IsFirst b g.S X a →
-    ((S : List ℕ) → IsSetBelow (contract_count b) S → IsFalse (has a.contract S) → AreCounts b S counts → AreCounts b (with_one S a.contract) more) → length more ≡ length b.nodes → length (set marks a.contract 1) ≡ length marks → IsGrowing b X (k + 1) more (set marks a.contract 1)
-growing_more b X k counts marks a more laws sX g f counted nodes same =
+pub growing_more : (b : Board) (X : List ℕ) (k : ℕ) (heads counts marks : List ℕ) (a : Addition) (moved more : List ℕ) → IsValuation (contract_count b) (values_of b) → IsSetBelow (contract_count b) X → (g : IsGrowing b X k heads counts marks) → IsFirst b g.S X a → AreHeads b X g.S moved →
+    ((S : List ℕ) → IsSetBelow (contract_count b) S → IsFalse (has a.contract S) → AreCounts b S counts → AreCounts b (with_one S a.contract) more) → length more ≡ length b.nodes → length (set marks a.contract 1) ≡ length marks → IsGrowing b X (k + 1) moved more (set marks a.contract 1)
+growing_more b X k heads counts marks a moved more laws sX g f reached counted nodes same =
     let out = not_in_from a.contract g.S f.addition.outside in
     let lt = sX.below a.contract f.member in
     let space = g.space in
@@ -51,6 +57,7 @@ growing_more b X k counts marks a more laws sX g f counted nodes same =
       long = length-with_one g.S a.contract out ∙ ap (λ n. n + 1) g.long;
       counted = counted g.S g.so_far.is_feasible.is_set out g.counted;
       marked = one_marked X g.S marks a.contract (omega (arith, lt, space)) g.marked;
+      reached = fewer_reached b X g.S moved a.contract reached;
       nodes = nodes;
       space = omega (arith, same, space);
     }
@@ -59,12 +66,12 @@ best_marks : (b : Board) (X S marks : List ℕ) → IsValuation (contract_count 
 best_marks b X S marks laws sX best m =
     subst (λ T. AreMarks X T marks) (best_unique (contract_count b) (values_of b) X S (best_of (values_of b) X) sX best (best_of_is (contract_count b) (values_of b) X laws sX)) m
 
-pub growing_stop : (b : Board) (X : List ℕ) (k : ℕ) (counts marks : List ℕ) → IsValuation (contract_count b) (values_of b) → IsSetBelow (contract_count b) X → (g : IsGrowing b X k counts marks) → IsFirstOf b g.S X None → AreMarks X (best_of (values_of b) X) marks
-growing_stop b X k counts marks laws sX g none =
+pub growing_stop : (b : Board) (X : List ℕ) (k : ℕ) (heads counts marks : List ℕ) → IsValuation (contract_count b) (values_of b) → IsSetBelow (contract_count b) X → (g : IsGrowing b X k heads counts marks) → IsFirstOf b g.S X None → AreMarks X (best_of (values_of b) X) marks
+growing_stop b X k heads counts marks laws sX g none =
     best_marks b X g.S marks laws sX (greedy_stop (contract_count b) (values_of b) X g.S laws sX g.so_far none) g.marked
 
-pub growing_full : (b : Board) (X : List ℕ) (k : ℕ) (counts marks : List ℕ) → IsValuation (contract_count b) (values_of b) → IsSetBelow (contract_count b) X → (g : IsGrowing b X k counts marks) → length X ≤ k → AreMarks X (best_of (values_of b) X) marks
-growing_full b X k counts marks laws sX g past =
+pub growing_full : (b : Board) (X : List ℕ) (k : ℕ) (heads counts marks : List ℕ) → IsValuation (contract_count b) (values_of b) → IsSetBelow (contract_count b) X → (g : IsGrowing b X k heads counts marks) → length X ≤ k → AreMarks X (best_of (values_of b) X) marks
+growing_full b X k heads counts marks laws sX g past =
     let long = g.long in
     let same = same_from_length g.S X g.so_far.is_feasible.is_set.ascending sX.ascending g.so_far.within (omega (arith, long, past)) in
     best_marks b X g.S marks laws sX

@@ -5,7 +5,9 @@ ghost use Rattle.rm_sets.specs.Sets.{has, IsSetBelow};
 ghost use Rattle.rm_market.specs.Board.{Board as MarketBoard, contract_count, is_feasible};
 ghost use Rattle.rm_valuation.specs.Counts.{AreCounts};
 ghost use Rattle.rm_greedy.specs.Additions.{AreMarks, ComesFirst, IsCandidate, IsFirstOf};
+ghost use Rattle.rm_greedy.specs.Heads.{AreHeads, AreLeavesRanked};
 
+use crate::heads::first_open;
 use rm_board::Board;
 use rm_valuation::gain;
 
@@ -69,21 +71,30 @@ fn better(best: Option<Addition>, next: Option<Addition>) -> Option<Addition>
 }
 
 // The addition of greatest gain among the offered contracts, of equal gain the first in tie order. None where each of them is
-// in the set already, doesn't fit, or lowers the worth.
+// in the set already, doesn't fit, or lowers the worth. Only the first contract of each hospital that isn't in the set is looked
+// at, since the others gain as much and stand later in tie order; the heads are moved on to these.
 pub(crate) fn best_addition(
     board: &Board,
     counts: &[u32],
     marks: &[u32],
     offered: &[u32],
+    heads: &mut [u32],
 ) -> Option<Addition>
+    requires ranked { AreLeavesRanked board.now }
     requires offered { IsSetBelow (contract_count board.now) offered.now }
     requires nodes { length counts.now ≡ length board.now.nodes }
     requires marks { contract_count board.now ≤ length marks.now }
-    ensures { (S : List ℕ) → IsTrue (is_feasible board.now S) → AreCounts board.now S counts.now → AreMarks offered.now S marks.now → IsFirstOf board.now S offered.now result }
+    requires heads { (r : ℕ) → r < length heads.old → slice_index heads.old r < length offered.now }
+    ensures heads { (S : List ℕ) → AreMarks offered.now S marks.now → AreHeads board.now offered.now S heads.old → AreHeads board.now offered.now S heads.new }
+    ensures first { (S : List ℕ) → IsTrue (is_feasible board.now S) → AreCounts board.now S counts.now → AreMarks offered.now S marks.now → AreHeads board.now offered.now S heads.old → IsFirstOf board.now S offered.now result }
 {
+    let contracts = board.contracts();
+    prove!(offered.len() <= contracts as usize);
     let mut best = None;
-    for i in 0..offered.len() {
-        best = better(best, candidate(board, counts, marks, offered[i]));
+    for i in 0..heads.len() {
+        let place = first_open(board, offered, marks, heads[i] as usize);
+        heads[i] = place as u32;
+        best = better(best, candidate(board, counts, marks, offered[place]));
     }
     best
 }

@@ -4,16 +4,15 @@
 ghost use Rattle.std.specs.Prelude.{◌≡◌, ◌<◌, ◌≤◌, ℕ, List, [], length, take};
 ghost use Rattle.rm_sets.specs.Sets.{IsSetBelow};
 ghost use Rattle.rm_market.specs.Board.{contract_count};
-ghost use Rattle.rm_market.specs.Best.{IsBest, IsValuation, best_of, values_of};
-ghost use Rattle.std.proofs.Common.{subst};
+ghost use Rattle.rm_market.specs.Best.{IsBest, best_of, values_of};
 ghost use Rattle.rm_valuation_laws.specs.Changes.{IsConcaveBoard};
-ghost use Rattle.rm_valuation_laws.proofs.LaminarExchange.{board_laws};
-ghost use Rattle.rm_valuation_laws.proofs.Best.{choice_from_bests};
-ghost use Rattle.rm_valuation_laws.proofs.BestOf.{best_of_is};
+ghost use Rattle.rm_valuation_laws.proofs.BestOf.{concave_choice};
 ghost use Rattle.rm_valuation.specs.Counts.{IsMarketBoard};
+ghost use Rattle.rm_greedy.specs.Heads.{AreLeavesRanked};
 
 mod addition;
 mod growth;
+mod heads;
 mod marks;
 
 use rm_board::Board;
@@ -21,14 +20,16 @@ use rm_choice::{Choice, ChoiceHolder, Room};
 
 /// The choice of the best subset: the feasible set of greatest worth, of equal worth the first in tie order.
 ///
-/// A choice looks once at each offered contract for each contract that it takes, and once more at the end, and each look
-/// costs the length of the contract's chain of nodes. The set grows by the contract of greatest gain, of equal gain the
-/// first in tie order, and ends where each further one lowers the worth or doesn't fit (Kojima, Tamura and Yokoo 2018).
+/// The set grows by the contract of greatest gain, of equal gain the first in tie order, and ends where each further one
+/// lowers the worth or doesn't fit (Kojima, Tamura and Yokoo 2018). For each contract that it takes, and once more at the end,
+/// a choice looks at one contract of each hospital that is offered any, and each look costs the length of the contract's chain
+/// of nodes.
 #[derive(Clone, Copy)]
 pub struct Greedy<'a> {
     board: &'a Board,
     ghost concave: { IsConcaveBoard board.now },
     ghost leaves: { length board.now.leaves ≡ contract_count board.now },
+    ghost ranked: { AreLeavesRanked board.now },
 }
 
 /// A holder that holds the best subset of what it was offered.
@@ -54,7 +55,7 @@ impl<'a> Choice for Greedy<'a> {
 
     ghost chosen = { λ c. best_of (values_of c.board.now) };
 
-    ghost lawful = { λ c. let laws : IsValuation (contract_count c.board.now) (values_of c.board.now) = subst (λ n. IsValuation n (values_of c.board.now)) c.leaves (board_laws c.board.now c.concave) in choice_from_bests (contract_count c.board.now) (values_of c.board.now) (best_of (values_of c.board.now)) laws (λ X x. best_of_is (contract_count c.board.now) (values_of c.board.now) X laws x) };
+    ghost lawful = { λ c. concave_choice c.board.now c.concave c.leaves };
 
     fn contracts(&self) -> u32 {
         self.board.contracts()

@@ -3,7 +3,7 @@
 ghost use Rattle.std.specs.Prelude.{◌≡◌, ◌<◌, ◌≤◌, [], All, IfOk, length};
 ghost use Rattle.std.specs.List.{sum_by};
 ghost use Rattle.rm_market.specs.Steps.{AreSteps};
-ghost use Rattle.rm_market.specs.Tree.{sets_of};
+ghost use Rattle.rm_market.specs.Tree.{sets_of_tree};
 ghost use Rattle.rm_valuation.specs.Counts.{IsMarketBoard};
 
 use super::*;
@@ -39,7 +39,7 @@ fn one_rank(alloc: Global) -> Result<Lists, NoMemory>
 fn one_node(alloc: Global) -> Result<Tree, NoMemory>
     ensures hospitals { IfOk result (λ t. t.hospitals ≡ 1) }
     ensures groups { IfOk result (λ t. t.groups ≡ []) }
-    ensures nodes { IfOk result (λ t. length (sets_of t) ≡ 1) }
+    ensures nodes { IfOk result (λ t. length (sets_of_tree t) ≡ 1) }
 {
     let groups = Vec::new(alloc);
     let Ok(tree) = Tree::build(alloc, 1, &groups) else {

@@ -1,7 +1,7 @@
 //! Worth of sets of contracts on a board, by counts at its nodes, and what one contract more or less changes.
 #![tactic(auto)]
 
-ghost use Rattle.std.specs.Prelude.{◌≡◌, ◌+◌, ◌-◌, ◌*◌, ◌^◌, ◌<◌, ◌≤◌, ◌==◌, ℕ, ℤ, pos, ◌-ℤ◌, ◌≤ℤ◌, List, [], length, replicate, min, count_by, slice_get, slice_index, slice_index_or, All, IfSome, IsTrue, IsFalse};
+ghost use Rattle.std.specs.Prelude.{◌≡◌, ◌+◌, ◌-◌, ◌*◌, ◌^◌, ◌<◌, ◌≤◌, ◌==◌, ℕ, ℤ, pos, ◌-ℤ◌, ◌≤ℤ◌, ◌<ℤ◌, List, [], length, replicate, min, count_by, slice_get, slice_index, slice_index_or, All, IfSome, IsTrue, IsFalse};
 ghost use Rattle.rm_sets.specs.Sets.{has, IsIn, IsSet, IsSetBelow, with_one, without};
 ghost use Rattle.rm_market.specs.Board.{Board as MarketBoard, contract_count, node_at, is_feasible, total, worth};
 ghost use Rattle.rm_market.specs.Best.{IsValuation, values_of};
@@ -109,8 +109,9 @@ pub fn worth(board: &Board, counts: &[u32]) -> i128
     sum
 }
 
-// The step that the next contract at a node takes. None exactly where the node is full.
-fn next_step(board: &Board, counts: &[u32], node: u32) -> Option<i64>
+/// The step that the next contract at a node takes. None exactly where the node is full. The counts have one number for
+/// each node, which counts from 0.
+pub fn next_step(board: &Board, counts: &[u32], node: u32) -> Option<i64>
     requires node { node < length board.now.nodes }
     requires nodes { length counts.now ≡ length board.now.nodes }
     ensures step { result ≡ slice_get (node_at board.now node).steps (slice_index counts.now node) }
@@ -124,8 +125,9 @@ fn next_step(board: &Board, counts: &[u32], node: u32) -> Option<i64>
     steps.step(count + 1)
 }
 
-// The step that the last contract at a node takes, or its first step where it has none.
-fn last_step(board: &Board, counts: &[u32], node: u32) -> i64
+/// The step that the last contract at a node takes: its first step where it has no contract, and 0 where it has no steps
+/// either. The counts have one number for each node, which counts from 0.
+pub fn last_step(board: &Board, counts: &[u32], node: u32) -> i64
     requires node { node < length board.now.nodes }
     requires nodes { length counts.now ≡ length board.now.nodes }
     ensures step { result ≡ slice_index_or (node_at board.now node).steps (slice_index counts.now node - 1) (pos 0) }
@@ -143,7 +145,8 @@ fn last_step(board: &Board, counts: &[u32], node: u32) -> i64
 pub fn gain(board: &Board, counts: &[u32], x: u32) -> Option<i64>
     requires contract { x < contract_count board.now }
     requires nodes { length counts.now ≡ length board.now.nodes }
-    ensures { (S : List ℕ) → IsFalse (has x S) → IsTrue (is_feasible board.now S) → AreCounts board.now S counts.now → IsGain board.now S x result }
+    ensures change { (S : List ℕ) → IsFalse (has x S) → IsTrue (is_feasible board.now S) → AreCounts board.now S counts.now → IsGain board.now S x result }
+    ensures range { IfSome result (λ change. ((pos 0 -ℤ pos (2 ^ 62)) <ℤ change) × (change <ℤ pos (2 ^ 62))) }
 {
     let chain = chain(board, x);
     let mut sum = 0;
@@ -160,7 +163,9 @@ pub fn gain(board: &Board, counts: &[u32], x: u32) -> Option<i64>
 pub fn loss(board: &Board, counts: &[u32], z: u32) -> i64
     requires contract { z < contract_count board.now }
     requires nodes { length counts.now ≡ length board.now.nodes }
-    ensures { (S : List ℕ) → IsSet S → IsIn z S → IsTrue (is_feasible board.now S) → AreCounts board.now S counts.now → result ≡ worth board.now S -ℤ worth board.now (without S z) }
+    ensures change { (S : List ℕ) → IsSet S → IsIn z S → IsTrue (is_feasible board.now S) → AreCounts board.now S counts.now → result ≡ worth board.now S -ℤ worth board.now (without S z) }
+    ensures low { (pos 0 -ℤ pos (2 ^ 62)) <ℤ result }
+    ensures high { result <ℤ pos (2 ^ 62) }
 {
     let chain = chain(board, z);
     let mut sum = 0;
@@ -169,3 +174,6 @@ pub fn loss(board: &Board, counts: &[u32], z: u32) -> i64
     }
     sum
 }
+
+#[cfg(test)]
+mod tests;

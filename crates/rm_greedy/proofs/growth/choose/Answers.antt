@@ -4,6 +4,12 @@ use Rattle.rm_market.specs.Board.{contract_count}
 use Rattle.rm_greedy.proofs.Steps.{best_written}
 use Rattle.rm_greedy.proofs.growth.choose.Goals as goal
 
+pub write_heads-heads-requires-clause-space : goal.write_heads-heads-requires-clause-space
+write_heads-heads-requires-clause-space c =
+    let short = length_below (contract_count c.args.board.now) c.args.offered.now c.requires.offered in
+    let space = c.requires.list in
+    omega (arith, short, space)
+
 pub write_marked-requires-clause-space : goal.write_marked-requires-clause-space
 write_marked-requires-clause-space c =
     let short = length_below (contract_count c.args.board.now) c.args.offered.now c.requires.offered in
