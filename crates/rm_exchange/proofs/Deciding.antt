@@ -1,0 +1,216 @@
+-- What is decided of an offer is the best subset of what is held with it.
+use Rattle.std.proofs.Common.{◌≡◌, ◌≢◌, ◌∙◌, ◌⊎◌, ℕ, ◌<◌, ◌≤◌, List, Bool, true, false, length, Option, Some, None, ℤ, pos, ◌+ℤ◌, ◌-ℤ◌, ◌≤ℤ◌, ◌<ℤ◌, refl, sym, ap, subst, inl, inr, ⊎_elim, arith}
+use Rattle.std.proofs.lemmas.Int.{ints}
+use Rattle.std.proofs.lemmas.Bool.{cases_eq, cases_Bool, lt-ltb}
+use Rattle.rm_sets.specs.Sets.{has, IsIn, IsSet, IsSetBelow, IsWithin, with_one, without}
+use Rattle.rm_sets.proofs.Sets.{not_both, IsSet-with_one, same_sets}
+use Rattle.rm_sets.proofs.Members.{within_refl, within-with_one, IsIn-with_one_new, without_within, with_one_within}
+use Rattle.rm_market.specs.Best.{Values, is_better, IsBest, IsValuation, best_of, values_of, swapped}
+use Rattle.rm_market.specs.Board.{Board, contract_count, node_at, sets_of, is_feasible, worth}
+use Rattle.rm_market.specs.Machine.{IsOutcome}
+use Rattle.rm_market.specs.declared.Outcome.{Outcome}
+use Rattle.rm_market.specs.declared.Outcome.TheVariants as out
+use Rattle.rm_valuation_laws.specs.Scores.{score, place}
+use Rattle.rm_valuation_laws.specs.Changes.{IsConcaveBoard, gain, swap_gain, swap_loss, test_at}
+use Rattle.rm_valuation_laws.specs.Offers.{IsFull, IsInside, EndsWalk, IsWalkAnswer}
+use Rattle.rm_valuation_laws.proofs.Moves.{with_other, without_other, swapped_new, swapped_old, swapped_other, apart, swapped_within}
+use Rattle.rm_valuation_laws.proofs.Score.{better_from_higher, higher_from_better, infeasible_not_better}
+use Rattle.rm_valuation_laws.proofs.Leads.{score_by_worth, score_by_tie, score_of_addition, leads_of_swaps, place_same}
+use Rattle.rm_valuation_laws.proofs.Decision.{addition_over_swap, swap_over_held, held_over_swap}
+use Rattle.rm_valuation_laws.proofs.Change.{worth_added, worth_swapped, added_infeasible, swap_feasible}
+use Rattle.rm_valuation_laws.proofs.Walk.{walk_best}
+use Rattle.rm_valuation_laws.proofs.Order.{inside_tests, comparable}
+use Rattle.rm_valuation_laws.proofs.Offers.{IsSet-swapped}
+use Rattle.rm_valuation_laws.proofs.LaminarExchange.{board_laws}
+use Rattle.rm_valuation_laws.proofs.Best.{best_unique}
+use Rattle.rm_valuation_laws.proofs.BestOf.{best_of_is}
+use Rattle.rm_exchange.specs.declared.prospects.Swap.{Swap}
+use Rattle.rm_exchange.specs.declared.prospects.Prospects.{Prospects}
+use Rattle.rm_exchange.specs.Entrants.{HasHospitals}
+use Rattle.rm_exchange.specs.Prospects.{swap_change, IsNoBetter, IsBestSwap, IsBestSwapOf, AreProspects, IsAddition, IsKeeping, IsSwapping, IsRefusing, IsDecided}
+
+-- a set is no better where its score is no higher, if it is feasible at all
+not_better : (v : Values) (S D : List ℕ) → v.feasible D ≡ true → (v.feasible S ≡ true → score v S ≤ℤ score v D) → is_better v S D ≡ false
+not_better v S D fD le =
+    ⊎_elim
+    (λ fS. ⊎_elim
+    (λ t. absurd (let up = higher_from_better v S D fD t in let low = le fS in omega (arith, ints)))
+    (λ f. f)
+    (cases_Bool (is_better v S D)))
+    (λ fS. infeasible_not_better v S D fS)
+    (cases_Bool (v.feasible S))
+
+-- an offer to a set that is its own best subset, and its prospects
+pub record IsOffer (b : Board) (H : List ℕ) (x : ℕ) (p : Prospects) : Type 0 where
+  pub concave : IsConcaveBoard b
+  pub set : IsSetBelow (length b.leaves) H
+  pub contract : x < length b.leaves
+  pub new : has x H ≡ false
+  pub own : IsBest (values_of b) H H
+  pub prospects : AreProspects b H x p
+
+-- where the walk ends, as the laws of one offer have it
+ends : (b : Board) (H : List ℕ) (x : ℕ) (p : Prospects) → (o : IsOffer b H x p) → EndsWalk b H x o.prospects.node
+ends b H x p o = (o.prospects.has_x, at p.addition o.prospects.addition)
+  where
+    at : (a : Option ℤ) → IsAddition b H x o.prospects.node a → IsFull b H (node_at b o.prospects.node)
+        ⊎ ((is_feasible b (with_one H x) ≡ true) × ((l : ℕ) → l < length b.nodes → test_at b l x ≡ true → IsInside (test_at b l) (test_at b o.prospects.node)))
+    at None full = inl full
+    at (Some change) open_end = inr (open_end.0, open_end.2)
+
+answer : (b : Board) (H : List ℕ) (x : ℕ) (p : Prospects) (D : List ℕ) → (o : IsOffer b H x p) → IsWalkAnswer b H x o.prospects.node D → IsBest (values_of b) (with_one H x) D
+answer b H x p D o a = walk_best b H x o.prospects.node D o.concave o.set o.contract o.new o.own o.prospects.below (ends b H x p o) a
+
+-- the worth with a swap
+worth_with : (b : Board) (H : List ℕ) (x : ℕ) (p : Prospects) → IsOffer b H x p → (z : ℕ) → IsIn z H → is_feasible b (swapped H x z) ≡ true → worth b (swapped H x z) ≡ worth b H +ℤ swap_change b H x z
+worth_with b H x p o z inz f = let e = worth_swapped b H z x o.set.ascending inz o.new o.own.feasible f in omega (arith, ints)
+
+-- the addition, if it is feasible, has its change
+addition_is : (b : Board) (H : List ℕ) (x : ℕ) (p : Prospects) → (o : IsOffer b H x p) → is_feasible b (with_one H x) ≡ true → (change : ℤ) × (p.addition ≡ Some change) × (worth b (with_one H x) ≡ worth b H +ℤ change)
+addition_is b H x p o f = at p.addition refl
+  where
+    at : (a : Option ℤ) → p.addition ≡ a → (change : ℤ) × (p.addition ≡ Some change) × (worth b (with_one H x) ≡ worth b H +ℤ change)
+    at None e = absurd (let full = subst (IsAddition b H x o.prospects.node) e o.prospects.addition in not_both (is_feasible b (with_one H x)) f (added_infeasible b H x o.prospects.node o.new o.prospects.below o.prospects.has_x full))
+    at (Some change) e = let a = subst (IsAddition b H x o.prospects.node) e o.prospects.addition in (change, e, worth_added b H x o.new f ∙ ap (λ w. worth b H +ℤ w) (sym a.1))
+
+-- each swap within the node is no better than the best one
+best_swap : (b : Board) (H : List ℕ) (x : ℕ) (p : Prospects) → (o : IsOffer b H x p) → (z : ℕ) → IsIn z H → test_at b o.prospects.node z ≡ true → (s : Swap) × (p.swap ≡ Some s) × IsBestSwap b H x (test_at b o.prospects.node) s
+best_swap b H x p o z inz t = at p.swap refl o.prospects.swap
+  where
+    at : (s : Option Swap) → p.swap ≡ s → IsBestSwapOf b H x (test_at b o.prospects.node) s → (r : Swap) × (p.swap ≡ Some r) × IsBestSwap b H x (test_at b o.prospects.node) r
+    at None e none = absurd (not_both (test_at b o.prospects.node z) t (none z inz))
+    at (Some s) e best = (s, e, best)
+
+the_swap : (b : Board) (H : List ℕ) (x : ℕ) (p : Prospects) → (o : IsOffer b H x p) → (s : Swap) → p.swap ≡ Some s → IsBestSwap b H x (test_at b o.prospects.node) s
+the_swap b H x p o s e = subst (IsBestSwapOf b H x (test_at b o.prospects.node)) e o.prospects.swap
+
+in_ties : (b : Board) (H : List ℕ) (x : ℕ) (p : Prospects) → IsOffer b H x p → (z : ℕ) → z < length b.leaves → IsIn z b.ties
+in_ties b H x p o z lt = (o.concave.ties_all z).1 lt
+
+-- the best swap is feasible
+fits : (b : Board) (H : List ℕ) (x : ℕ) (p : Prospects) → (o : IsOffer b H x p) → (z : ℕ) → IsIn z H → test_at b o.prospects.node z ≡ true → is_feasible b (swapped H x z) ≡ true
+fits b H x p o z inz t =
+    let a = o.prospects.node in
+    swap_feasible b H z x o.set.ascending inz o.new o.own.feasible (λ k lk kx full.
+    ⊎_elim
+    (λ e. subst (λ w. test_at b w z ≡ true) (sym e) t)
+    (λ rest. ⊎_elim
+    (λ inside. absurd (o.prospects.free k lk kx inside full))
+    (λ outside. inside_tests b a k outside z t)
+    rest)
+    (comparable b o.concave k a x lk o.prospects.below kx o.prospects.has_x))
+
+some_same : {A : Type 0} (s t : A) → Some s ≡ Some t → s ≡ t
+some_same s t e = cc
+
+-- ---- the three answers
+
+pub kept_best : (b : Board) (H : List ℕ) (x : ℕ) (p : Prospects) → (o : IsOffer b H x p) → IsKeeping p → IsBest (values_of b) (with_one H x) (with_one H x)
+kept_best b H x p o k =
+    let v = values_of b in
+    let A = with_one H x in
+    let change = k.0 in
+    let add = subst (IsAddition b H x o.prospects.node) k.1 o.prospects.addition in
+    let w : worth b A ≡ worth b H +ℤ change = worth_added b H x o.new add.0 ∙ ap (λ g. worth b H +ℤ g) (sym add.1) in
+    let up = k.2 in
+    answer b H x p A o (record {
+      set = IsSet-with_one H x o.set.ascending;
+      within = within_refl A;
+      feasible = add.0;
+      not_refused = not_better v H A add.0 (λ f. let s = score_of_addition v H x o.new (in_ties b H x p o x o.contract) (omega (arith, ints)) in omega (arith, ints));
+      not_added = not_better v A A add.0 (λ f. omega (arith, ints));
+      not_swapped = λ z inz t. not_better v (swapped H x z) A add.0 (λ f.
+          let s = best_swap b H x p o z inz t in
+          let le = k.3 s.0 s.1 in
+          let ws = worth_with b H x p o z inz f in
+          let most = s.2.best z inz t in
+          let less = addition_over_swap v H z x o.set.ascending inz o.new (in_ties b H x p o z (o.set.below z inz)) (at_most (worth b H) (worth b A) (worth b (swapped H x z)) (swap_change b H x z) s.0.change change (place b.ties z) s.0.tie w ws most le) in
+          omega (arith, ints));
+    })
+  where
+    at_most : (h a s c d g : ℤ) (t u : ℕ) → a ≡ h +ℤ g → s ≡ h +ℤ c → IsNoBetter c t d u → d ≤ℤ g → s ≤ℤ a
+    at_most h a s c d g t u e f (inl lt) le = omega (arith, ints)
+    at_most h a s c d g t u e f (inr tie) le = let same = tie.0 in omega (arith, ints)
+
+-- of two swaps the one that is no better has no higher score
+swap_scores : (b : Board) (H : List ℕ) (x z y : ℕ) → IsIn z H → IsIn y H → has x H ≡ false → IsIn y b.ties → (c d : ℤ) → worth b (swapped H x z) ≡ worth b H +ℤ c → worth b (swapped H x y) ≡ worth b H +ℤ d → IsNoBetter c (place b.ties z) d (place b.ties y) → score (values_of b) (swapped H x z) ≤ℤ score (values_of b) (swapped H x y)
+swap_scores b H x z y inz iny out inTies c d wz wy (inl lt) = let s = score_by_worth (values_of b) (swapped H x y) (swapped H x z) (omega (arith, ints)) in omega (arith, ints)
+swap_scores b H x z y inz iny out inTies c d wz wy (inr tie) =
+    let same = tie.0 in
+    let le = tie.1 in
+    ⊎_elim
+    (λ e. subst (λ w. score (values_of b) (swapped H x w) ≤ℤ score (values_of b) (swapped H x y)) (sym e) (omega (arith, ints)))
+    (λ ne.
+    let differ : place b.ties z ≢ place b.ties y = λ e. ne (sym (place_same b.ties y z inTies (sym e))) in
+    let lt : place b.ties z < place b.ties y = omega arith in
+    let s = score_by_tie (values_of b) (swapped H x y) (swapped H x z) (omega (arith, ints)) (leads_of_swaps b.ties H x y z out iny inz (λ e. ne (sym e)) ∙ lt-ltb (place b.ties z) (place b.ties y) lt) in
+    omega (arith, ints))
+    (cases_eq z y)
+
+pub swapped_best : (b : Board) (H : List ℕ) (x : ℕ) (p : Prospects) → (o : IsOffer b H x p) → (tie : ℕ) → tie ≡ place b.ties x → (z : ℕ) → IsSwapping p tie z → IsIn z H × IsBest (values_of b) (with_one H x) (swapped H x z)
+swapped_best b H x p o tie tied z sw =
+    let v = values_of b in
+    let s = sw.0 in
+    let best = the_swap b H x p o s sw.1 in
+    let inz : IsIn z H = subst (λ w. IsIn w H) (sym sw.2) best.held in
+    let t : test_at b o.prospects.node z ≡ true = ap (test_at b o.prospects.node) sw.2 ∙ best.passes in
+    let D = swapped H x z in
+    let fD = fits b H x p o z inz t in
+    let change : swap_change b H x z ≡ s.change = ap (swap_change b H x) sw.2 ∙ sym best.change in
+    let wD : worth b D ≡ worth b H +ℤ s.change = worth_with b H x p o z inz fD ∙ ap (λ c. worth b H +ℤ c) change in
+    let place_is : s.tie ≡ place b.ties z = best.tie ∙ ap (place b.ties) (sym sw.2) in (
+      inz,
+      answer b H x p D o (record {
+        set = IsSet-swapped H z x o.set.ascending;
+        within = swapped_within H (with_one H x) z x (within-with_one H x) (IsIn-with_one_new H x);
+        feasible = fD;
+        not_refused = not_better v H D fD (λ f. let lt = swap_over_held v H z x inz o.new (above (worth b H) (worth b D) s.change tie s.tie (place b.ties x) (place b.ties z) wD tied place_is sw.3) in omega (arith, ints));
+        not_added = not_better v (with_one H x) D fD (λ f.
+            let add = addition_is b H x p o f in
+            let lt = score_by_worth v D (with_one H x) (below (worth b H) (worth b D) (worth b (with_one H x)) s.change add.0 tie s.tie wD add.2 sw.3 (sw.4 add.0 add.1)) in
+            omega (arith, ints));
+        not_swapped = λ y iny ty. not_better v (swapped H x y) D fD (λ f.
+            swap_scores b H x y z iny inz o.new (in_ties b H x p o z (o.set.below z inz)) (swap_change b H x y) s.change (worth_with b H x p o y iny f) wD
+            (subst (λ w. IsNoBetter (swap_change b H x y) (place b.ties y) s.change w) place_is (best.best y iny ty)));
+      }),
+    )
+  where
+    above : (h d c : ℤ) (t u t2 u2 : ℕ) → d ≡ h +ℤ c → t ≡ t2 → u ≡ u2 → (pos 0 <ℤ c) ⊎ ((c ≡ pos 0) × (t < u)) → (h <ℤ d) ⊎ ((d ≡ h) × (t2 < u2))
+    above h d c t u t2 u2 e f g (inl lt) = inl (omega (arith, ints))
+    above h d c t u t2 u2 e f g (inr tie) = let same = tie.0 in let lt = tie.1 in inr (omega (arith, ints), omega arith)
+
+    below : (h d a c g : ℤ) (t u : ℕ) → d ≡ h +ℤ c → a ≡ h +ℤ g → (pos 0 <ℤ c) ⊎ ((c ≡ pos 0) × (t < u)) → (g <ℤ pos 0) ⊎ (g <ℤ c) → a <ℤ d
+    below h d a c g t u e f (inl p1) (inl q) = omega (arith, ints)
+    below h d a c g t u e f (inl p1) (inr q) = omega (arith, ints)
+    below h d a c g t u e f (inr p1) (inl q) = let same = p1.0 in omega (arith, ints)
+    below h d a c g t u e f (inr p1) (inr q) = omega (arith, ints)
+
+pub refused_best : (b : Board) (H : List ℕ) (x : ℕ) (p : Prospects) → (o : IsOffer b H x p) → (tie : ℕ) → tie ≡ place b.ties x → IsRefusing p tie → IsBest (values_of b) (with_one H x) H
+refused_best b H x p o tie tied r =
+    let v = values_of b in
+    let fH = o.own.feasible in
+    answer b H x p H o (record {
+      set = o.set.ascending;
+      within = within-with_one H x;
+      feasible = fH;
+      not_refused = not_better v H H fH (λ f. omega (arith, ints));
+      not_added = not_better v (with_one H x) H fH (λ f.
+          let add = addition_is b H x p o f in
+          let less = r.0 add.0 add.1 in
+          let w = add.2 in
+          let lt = score_by_worth v H (with_one H x) (omega (arith, ints)) in
+          omega (arith, ints));
+      not_swapped = λ z inz t. not_better v (swapped H x z) H fH (λ f.
+          let s = best_swap b H x p o z inz t in
+          let most = s.2.best z inz t in
+          let w = worth_with b H x p o z inz f in
+          let differ : place b.ties z ≢ place b.ties x = λ e. apart H z x inz o.new (place_same b.ties z x (in_ties b H x p o z (o.set.below z inz)) e) in
+          let lt = held_over_swap v H z x inz o.new (under (worth b H) (worth b (swapped H x z)) (swap_change b H x z) s.0.change (place b.ties z) s.0.tie tie (place b.ties x) w tied differ most (r.1 s.0 s.1)) in
+          omega (arith, ints));
+    })
+  where
+    under : (h d c m : ℤ) (t u v x : ℕ) → d ≡ h +ℤ c → v ≡ x → t ≢ x → IsNoBetter c t m u → (m <ℤ pos 0) ⊎ ((m ≡ pos 0) × (u ≤ v)) → (d <ℤ h) ⊎ ((h ≡ d) × (t < x))
+    under h d c m t u v x e f ne (inl lt) (inl q) = inl (omega (arith, ints))
+    under h d c m t u v x e f ne (inl lt) (inr q) = let same = q.0 in inl (omega (arith, ints))
+    under h d c m t u v x e f ne (inr tie) (inl q) = let same = tie.0 in inl (omega (arith, ints))
+    under h d c m t u v x e f ne (inr tie) (inr q) = let s = tie.0 in let l = tie.1 in let s2 = q.0 in let l2 = q.1 in inr (omega (arith, ints), omega arith)

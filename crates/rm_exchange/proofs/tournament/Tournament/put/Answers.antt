@@ -1,0 +1,28 @@
+use Rattle.std.proofs.Common.{◌≡◌, ◌∙◌, ◌+◌, ◌-◌, ◌*◌, ◌/◌, ◌<◌, ◌≤◌, get_or, length, set, None, sym, ap, drop, arith}
+use Rattle.std.proofs.lemmas.List.{get_or_default, length-drop, drop-set-add, drop-set-lt}
+use Rattle.rm_exchange.proofs.Rounds.{rival_changed, round_changed, all_rounds, round_read}
+use Rattle.rm_exchange.proofs.tournament.Tournament.put.Goals as goal
+
+pub loop-j-init : goal.loop-j-init
+loop-j-init c =
+    let width = c.self.inside.width in
+    let entries = c.self.inside.entries.items in
+    let twice = c.self.invariant.twice in
+    let long = length-drop width entries ∙ ap (λ n. n - width) twice in
+    let same = ap length c.self.view_is in
+    let inside = c.requires in (
+      rival_changed width entries (width + c.args.place) c.args.rival c.self.invariant (omega arith) (omega arith),
+      drop-set-add width entries c.args.place c.args.rival ∙ ap (λ v. set v c.args.place c.args.rival) c.self.view_is,
+    )
+
+pub loop-j-preserved : goal.loop-j-preserved
+loop-j-preserved c =
+    let width = c.loop-j.self-inside.width in
+    let entries = c.loop-j.self-inside.entries.items in
+    let j = c.loop-j.j in
+    let here = c.loop-j.invariant.0.here in
+    let past = c.loop-j-test.true in (
+      round_changed width entries j (j / 2) c.cheaper.result c.loop-j.invariant.0 c.loop-j-test.true (omega arith)
+          (round_read width entries (j / 2) _ _ c.cheaper.result c.loop-j.invariant.0.twice (omega arith) c.index.ensures c.index-in-loop-j.ensures c.cheaper.ensures),
+      drop-set-lt width entries (j / 2) c.cheaper.result (omega arith) ∙ c.loop-j.invariant.1,
+    )

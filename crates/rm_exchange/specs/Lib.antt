@@ -1,0 +1,7 @@
+pub mod Counted
+pub mod Swaps
+pub mod RowsBelow
+pub mod Removals
+pub mod Entrants
+pub mod Holding
+pub mod Prospects

@@ -1,0 +1,132 @@
+// A holder that answers each offer by one exchange.
+
+ghost use Rattle.std.specs.Prelude.{◌≡◌, ◌<◌, ◌^◌, ℕ, List, [], All, false, None, length, get_or, map, replicate, IfOk, IsFalse};
+ghost use Rattle.rm_sets.specs.Sets.{has, with_one, IsSetBelow};
+ghost use Rattle.rm_sets.proofs.Sets.{IsSetBelow-all_below};
+ghost use Rattle.rm_market.specs.Board.{contract_count};
+ghost use Rattle.rm_market.specs.Best.{IsBest, best_of, values_of};
+ghost use Rattle.rm_market.specs.Machine.{IsOutcome};
+ghost use Rattle.rm_valuation_laws.specs.Changes.{IsConcaveBoard};
+ghost use Rattle.rm_valuation_laws.proofs.BestOf.{concave_choice};
+ghost use Rattle.rm_valuation.specs.Counts.{IsMarketBoard};
+ghost use Rattle.rm_exchange.specs.Holding.{held_in, IsAllKept, IsHolding};
+
+use crate::holding::{Holding, hold, release};
+use crate::places::all_places;
+use crate::prospects::{decide, walk};
+use crate::tournament::Tournament;
+use rm_board::Board;
+use rm_choice::{Holder, NoMemory, Outcome};
+use std::alloc::Global;
+
+/// Holds the best subset of what it was offered: the feasible set of greatest worth, of equal worth the first in tie order.
+///
+/// An offer displaces at most one held contract. It walks along its chain of nodes up to the first full one, and at each of
+/// them looks at the one held contract whose removal loses least there; then it mends what is kept along its own chain, and
+/// along that of the contract that it displaces. So an offer costs the sum, over the nodes of these two chains, of the
+/// logarithms of how many contracts or nodes lie just inside each (Kojima, Tamura and Yokoo 2018, the laminar case).
+#[derive(Drop)]
+pub struct FastHolder<'a> {
+    board: &'a Board,
+    places: Vec<usize>,
+    holding: Holding,
+    ghost concave: { IsConcaveBoard board.now },
+    ghost leaves: { length board.now.leaves ≡ contract_count board.now },
+    ghost settled: { best_of (values_of board.now) (held_in board.now holding) ≡ held_in board.now holding },
+    ghost kept: { ∥ IsAllKept board.now places.items holding ∥₁ },
+}
+
+impl<'a> FastHolder<'a> {
+    /// Holds nothing at first, and takes all memory that later calls need: it is in proportion to the contracts and nodes of the
+    /// board, which is that of a market. The contracts that are offered count from 0. `NoMemory` comes only where that memory
+    /// is wanting.
+    pub fn open(alloc: Global, board: &'a Board) -> Result<FastHolder<'a>, NoMemory>
+        requires { IsMarketBoard board.now }
+        ensures held { IfOk result (λ h. ⟦<FastHolder<'a> as Holder>⟧.held h ≡ []) }
+        ensures count { IfOk result (λ h. ⟦<FastHolder<'a> as Holder>⟧.count h ≡ contract_count board.now) }
+        ensures chosen { IfOk result (λ h. ⟦<FastHolder<'a> as Holder>⟧.chosen h ≡ best_of (values_of board.now)) }
+        ensures best { (X : List ℕ) → IsSetBelow (contract_count board.now) X → IfOk result (λ h. IsBest (values_of board.now) X (⟦<FastHolder<'a> as Holder>⟧.chosen h X)) }
+    {
+        let at = all_places(alloc, board)?;
+        let holding = nothing(alloc, board, &at.widths)?;
+        Ok(FastHolder {
+            board,
+            places: at.places,
+            holding,
+        })
+    }
+}
+
+impl<'a> Holder for FastHolder<'a> {
+    ghost count = { λ h. contract_count h.board.now };
+
+    ghost held = { λ h. held_in h.board.now h.holding };
+
+    ghost chosen = { λ h. best_of (values_of h.board.now) };
+
+    ghost lawful = { λ h. concave_choice h.board.now h.concave h.leaves };
+
+    ghost is_set = { λ h. IsSetBelow-all_below (contract_count h.board.now) (λ x. get_or h.holding.marks.items x false) };
+
+    ghost settled = { λ h. h.settled };
+
+    fn contracts(&self) -> u32 {
+        self.board.contracts()
+    }
+
+    fn holds(&self, x: u32) -> bool {
+        self.holding.marks[x as usize]
+    }
+
+    fn offer(&mut self, x: u32) -> Outcome {
+        offer(self.board, &self.places, &mut self.holding, x)
+    }
+}
+
+// Nothing held, with so many places at each node.
+fn nothing(alloc: Global, board: &Board, widths: &[usize]) -> Result<Holding, NoMemory>
+    requires { All (λ width. width < 2 ^ 40) widths.now }
+    ensures counts { IfOk result (λ h. h.counts.items ≡ replicate (length board.now.nodes) 0) }
+    ensures marks { IfOk result (λ h. h.marks.items ≡ replicate (contract_count board.now) false) }
+    ensures rivals { IfOk result (λ h. h.rivals.items ≡ map (λ width. replicate width None) widths.now) }
+{
+    let nodes = board.tree().nodes();
+    let counts = vec![in alloc; 0; nodes as usize]?;
+    let marks = vec![in alloc; false; board.contracts() as usize]?;
+    let mut rivals = Vec::with_capacity(alloc, widths.len())?;
+    for i in 0..widths.len() {
+        rivals.push(Tournament::new(alloc, widths[i])?)?;
+    }
+    Ok(Holding {
+        counts,
+        marks,
+        rivals,
+    })
+}
+
+// Offers x to what is held.
+fn offer(board: &Board, places: &[usize], holding: &mut Holding, x: u32) -> Outcome
+    requires holding { IsHolding board.now places.now holding.old }
+    requires contract { x < contract_count board.now }
+    requires new { IsFalse (has x (held_in board.now holding.old)) }
+    ensures holding { IsHolding board.now places.now holding.new }
+    ensures held { held_in board.now holding.new ≡ best_of (values_of board.now) (with_one (held_in board.now holding.old) x) }
+    ensures outcome { IsOutcome (held_in board.now holding.old) x (held_in board.now holding.new) result }
+{
+    let prospects = walk(board, holding, x);
+    match decide(prospects, board.tie(x)) {
+        Outcome::Kept => {
+            hold(board, places, holding, x);
+            Outcome::Kept
+        }
+        Outcome::Refused => Outcome::Refused,
+        Outcome::Swapped(z) => {
+            release(board, places, holding, z);
+            hold(board, places, holding, x);
+            Outcome::Swapped(z)
+        }
+    }
+}
+
+#[cfg(test)]
+mod tests;

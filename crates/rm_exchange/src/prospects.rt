@@ -1,0 +1,113 @@
+// What an offer may change: its addition, and the best swap for it.
+
+ghost use Rattle.std.specs.Prelude.{◌≡◌, ◌<◌, ◌-ℤ◌, ◌≤ℤ◌, ◌^◌, pos, ℕ, List, IfSome, IsTrue, IsFalse};
+ghost use Rattle.rm_market.specs.Board.{contract_count, is_feasible};
+ghost use Rattle.rm_exchange.specs.Holding.{held_in, IsAllKept};
+ghost use Rattle.rm_exchange.specs.Prospects.{better_swap, IsRated, AreProspects, IsDecided};
+ghost use Rattle.rm_sets.specs.Sets.{has};
+
+use crate::holding::{Holding, chain_of};
+use crate::removal::Removal;
+use rm_board::Board;
+use rm_market::Outcome;
+use rm_valuation::next_step;
+
+// A held contract whose place an offer may take: its place in tie order, and what the swap changes in the worth.
+#[derive(Clone, Copy)]
+pub struct Swap {
+    pub contract: u32,
+    pub tie: u32,
+    pub change: i64,
+}
+
+// The best swap for an offer, if there is one, and what its addition changes in the worth, if it fits.
+#[derive(Clone, Copy)]
+pub struct Prospects {
+    pub swap: Option<Swap>,
+    pub addition: Option<i64>,
+}
+
+// The swap for a removal, where the offer gains so much.
+fn rated(gain: i64, removal: Option<Removal>) -> Option<Swap>
+    requires low { (pos 0 -ℤ pos 4_400_000_000_000_000_000) ≤ℤ gain }
+    requires high { gain ≤ℤ pos 4_400_000_000_000_000_000 }
+    requires small { IfSome removal (λ r. ((pos 0 -ℤ pos 4_400_000_000_000_000_000) ≤ℤ r.loss) × (r.loss ≤ℤ pos 4_400_000_000_000_000_000)) }
+    ensures { IsRated gain removal result }
+{
+    let Some(removal) = removal else {
+        return None;
+    };
+    Some(Swap {
+        contract: removal.contract,
+        tie: removal.tie,
+        change: gain - removal.loss,
+    })
+}
+
+// The swap that changes the worth by more, of equal changes the later in tie order.
+fn better(best: Option<Swap>, next: Option<Swap>) -> Option<Swap>
+    ensures { result ≡ better_swap best next }
+{
+    let Some(old) = best else {
+        return next;
+    };
+    let Some(new) = next else {
+        return best;
+    };
+    if old.change < new.change || (old.change == new.change && old.tie < new.tie) {
+        next
+    } else {
+        best
+    }
+}
+
+// Walks from the leaf of contract x outwards, up to its first full node.
+pub(crate) fn walk(board: &Board, holding: &Holding, x: u32) -> Prospects
+    requires contract { x < contract_count board.now }
+    requires kept { (places : List ℕ) × IsAllKept board.now places holding.now }
+    requires new { IsFalse (has x (held_in board.now holding.now)) }
+    requires feasible { IsTrue (is_feasible board.now (held_in board.now holding.now)) }
+    ensures { AreProspects board.now (held_in board.now holding.now) x result }
+{
+    let chain = chain_of(board, x);
+    let mut gain = 0;
+    let mut swap = None;
+    for i in 0..chain.len() {
+        let node = chain[i];
+        let best = holding.rivals[node as usize].best();
+        swap = better(swap, rated(gain, best));
+        let Some(step) = next_step(board, &holding.counts, node) else {
+            return Prospects {
+                swap,
+                addition: None,
+            };
+        };
+        gain += step;
+    }
+    Prospects {
+        swap,
+        addition: Some(gain),
+    }
+}
+
+// What an offer at this place in tie order does: an addition that doesn't lower the worth and isn't exceeded by the swap, else
+// a swap that raises the worth, or leaves it and comes first in tie order.
+pub(crate) fn decide(prospects: Prospects, tie: u32) -> Outcome
+    ensures { IsDecided prospects tie result }
+{
+    let Some(swap) = prospects.swap else {
+        return match prospects.addition {
+            Some(gain) if gain >= 0 => Outcome::Kept,
+            _ => Outcome::Refused,
+        };
+    };
+    if let Some(gain) = prospects.addition {
+        if gain >= 0 && swap.change <= gain {
+            return Outcome::Kept;
+        }
+    }
+    if swap.change > 0 || (swap.change == 0 && tie < swap.tie) {
+        return Outcome::Swapped(swap.contract);
+    }
+    Outcome::Refused
+}

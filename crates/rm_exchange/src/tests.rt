@@ -1,0 +1,236 @@
+// The verdicts and the certificate at one hospital whose second place lowers the worth.
+
+ghost use Rattle.std.specs.Prelude.{◌≡◌, ◌<◌, ◌≤◌, [], All, IfOk, IsTrue, length};
+ghost use Rattle.std.specs.List.{sum_by};
+ghost use Rattle.rm_sets.specs.Sets.{IsSetBelow, IsWithin};
+ghost use Rattle.rm_market.specs.Board.{contract_count};
+ghost use Rattle.rm_market.specs.Best.{IsBest, values_of};
+ghost use Rattle.rm_choice.specs.Size.{Fits};
+ghost use Rattle.rm_market.specs.Steps.{AreSteps};
+ghost use Rattle.rm_market.specs.Tree.{sets_of_tree};
+ghost use Rattle.rm_valuation.specs.Counts.{IsMarketBoard};
+
+use super::*;
+use rm_board::{Board, TieRule};
+use rm_choice::Room;
+use rm_laminar::Tree;
+use rm_market::Run;
+use rm_ranks::{Lists, ListsBuilder};
+use rm_steps::Steps;
+use std::alloc::{AllocError, Global};
+use std::test::Fail;
+
+// The rank lists of one hospital, which ranks the first doctor above the second.
+fn one_rank(alloc: Global) -> Result<Lists, NoMemory>
+    ensures few { IfOk result (λ ranks. sum_by length ranks ≤ 10) }
+    ensures one { IfOk result (λ ranks. length ranks ≡ 1) }
+    ensures below { IfOk result (λ ranks. All (All (λ x. x < 2)) ranks) }
+{
+    let mut builder = ListsBuilder::new(alloc, 1, 2, 10)?;
+    let Ok(()) = builder.row(0, 1) else {
+        return Err(AllocError);
+    };
+    let Ok(()) = builder.push(0) else {
+        return Err(AllocError);
+    };
+    let Ok(()) = builder.push(1) else {
+        return Err(AllocError);
+    };
+    builder.finish(alloc)
+}
+
+// The tree of one hospital.
+fn one_node(alloc: Global) -> Result<Tree, NoMemory>
+    ensures hospitals { IfOk result (λ t. t.hospitals ≡ 1) }
+    ensures groups { IfOk result (λ t. t.groups ≡ []) }
+    ensures nodes { IfOk result (λ t. length (sets_of_tree t) ≡ 1) }
+{
+    let groups = Vec::new(alloc);
+    let Ok(tree) = Tree::build(alloc, 1, &groups) else {
+        return Err(AllocError);
+    };
+    if tree.nodes() != 1 {
+        return Err(AllocError);
+    }
+    Ok(tree)
+}
+
+// Two places, of which the second lowers the worth.
+fn two_steps(alloc: Global) -> Result<Vec<Steps>, NoMemory>
+    ensures one { IfOk result (λ v. length v.items ≡ 1) }
+    ensures steps { IfOk result (λ v. All AreSteps v.items) }
+{
+    let run = Run {
+        value: 0,
+        fall: 1,
+        count: 2,
+    };
+    let Ok(steps) = Steps::check(alloc, &[run]) else {
+        return Err(AllocError);
+    };
+    let mut nodes = Vec::new(alloc);
+    nodes.push(steps)?;
+    Ok(nodes)
+}
+
+// The board of the one hospital.
+fn one_hospital(alloc: Global) -> Result<Board, NoMemory>
+    ensures { IfOk result IsMarketBoard }
+{
+    let ranks = one_rank(alloc)?;
+    let tree = one_node(alloc)?;
+    let steps = two_steps(alloc)?;
+    let hospitals = ranks.len();
+    prove!(hospitals == 1);
+    let Ok(board) = Board::build(alloc, &ranks, tree, steps, TieRule::ByRank) else {
+        return Err(AllocError);
+    };
+    Ok(board)
+}
+
+// Whether numbers are strictly ascending and below n.
+fn is_set(n: u32, xs: &[u32]) -> bool
+    ensures { IsTrue result → IsSetBelow n xs.now }
+{
+    for i in 0..xs.len() {
+        if xs[i] >= n {
+            return false;
+        }
+        if i > 0 && xs[i - 1] >= xs[i] {
+            return false;
+        }
+    }
+    true
+}
+
+// Whether each of these numbers is one of those.
+fn is_within(xs: &[u32], ys: &[u32]) -> bool
+    ensures { IsTrue result → IsWithin xs.now ys.now }
+{
+    for i in 0..xs.len() {
+        if !ys.contains(&xs[i]) {
+            return false;
+        }
+    }
+    true
+}
+
+// The verdict on a choice. None where the contracts are no sets of the board's, one within the other.
+fn verdict_on(
+    alloc: Global,
+    board: &Board,
+    offered: &[u32],
+    chosen: &[u32],
+) -> Result<Option<Verdict>, NoMemory>
+    requires { IsMarketBoard board.now }
+{
+    let contracts = board.contracts();
+    if !is_set(contracts, offered) {
+        return Ok(None);
+    }
+    if !is_set(contracts, chosen) {
+        return Ok(None);
+    }
+    if !is_within(chosen, offered) {
+        return Ok(None);
+    }
+    let mut room = Room::new(alloc, contracts, board.tree().nodes())?;
+    let verdict = certify(board, offered, chosen, &mut room);
+    Ok(Some(verdict))
+}
+
+// A choice at the hospital, and the verdict on it.
+#[derive(Clone, Copy)]
+struct Choice {
+    chosen: &'static [u32],
+    verdict: Verdict,
+}
+
+const CHOICES: [Choice; 4] = [
+    Choice {
+        chosen: &[0],
+        verdict: Verdict::Best,
+    },
+    Choice {
+        chosen: &[1],
+        verdict: Verdict::Swap(0, 1),
+    },
+    Choice {
+        chosen: &[],
+        verdict: Verdict::Add(0),
+    },
+    Choice {
+        chosen: &[0, 1],
+        verdict: Verdict::Remove(0),
+    },
+];
+
+#[test]
+fn finds_the_first_change(rt: HostRuntime) -> Result<(), Fail> {
+    let board = one_hospital(rt.alloc())?;
+    for choice in &CHOICES {
+        let found = verdict_on(rt.alloc(), &board, &[0, 1], choice.chosen)?;
+        assert!(rt; found == Some(choice.verdict));
+    }
+    Ok(())
+}
+
+// Whether a choice of offers, which are a set, is the best one.
+fn is_best(board: &Board, offered: &[u32], chosen: &[u32], room: &mut Room) -> bool
+    requires board { IsMarketBoard board.now }
+    requires fits { Fits (contract_count board.now) (length board.now.nodes) room.old }
+    ensures below { IsTrue result → IsSetBelow (contract_count board.now) offered.now }
+    ensures best { IsTrue result → IsBest (values_of board.now) offered.now chosen.now }
+{
+    let contracts = board.contracts();
+    if !is_set(contracts, offered) {
+        return false;
+    }
+    if !is_set(contracts, chosen) {
+        return false;
+    }
+    if !is_within(chosen, offered) {
+        return false;
+    }
+    match certify(board, offered, chosen, room) {
+        Verdict::Best => true,
+        _ => false,
+    }
+}
+
+const ROWS: [CertRow; 2] = [
+    CertRow {
+        contract: 1,
+        kept: false,
+        change: Some(-1),
+        full: None,
+        swap: Some(SwapRow { out: 0, change: 0 }),
+    },
+    CertRow {
+        contract: 0,
+        kept: true,
+        change: Some(0),
+        full: None,
+        swap: None,
+    },
+];
+
+#[test]
+fn tells_what_each_offer_changes(rt: HostRuntime) -> Result<(), Fail> {
+    let board = one_hospital(rt.alloc())?;
+    let mut room = Room::new(rt.alloc(), board.contracts(), board.tree().nodes())?;
+    let chosen = [0];
+    let offered = [0, 1];
+    let offers = [1, 0];
+    let best = is_best(&board, &offered, &chosen, &mut room);
+    assert!(rt; best);
+    let all = is_within(&offered, &offers);
+    assert!(rt; all);
+    let only = is_within(&offers, &offered);
+    assert!(rt; only);
+    let rows = certificate(rt.alloc(), &board, &offers, &chosen)?;
+    assert!(rt; rows.len() == 2);
+    assert!(rt; rows[0] == ROWS[0]);
+    assert!(rt; rows[1] == ROWS[1]);
+    Ok(())
+}

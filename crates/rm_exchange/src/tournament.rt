@@ -1,0 +1,67 @@
+// Rivals of which the cheapest stays known while one after another changes.
+
+ghost use Rattle.std.specs.Prelude.{◌≡◌, ◌*◌, ◌^◌, ◌<◌, ℕ, List, None, length, replicate, set, IfOk};
+ghost use Rattle.rm_exchange.specs.Removals.{IsCheapestOf};
+
+use crate::removal::{Removal, cheaper};
+use rm_choice::NoMemory;
+use std::alloc::Global;
+use std::marker::Model;
+
+// The removals of some rivals, of which each may be empty. Entry `width + i` is that of rival i, and each entry j from 1
+// below the width is the cheaper one of the entries 2j and 2j + 1, so that entry 1 is the cheapest of all. To change one
+// rival takes as many steps as the width has binary digits.
+#[derive(Drop)]
+pub struct Tournament {
+    width: usize,
+    entries: Vec<Option<Removal>>,
+}
+
+impl Model for Tournament {
+    ghost use Rattle.std.specs.Prelude.{List, Option, drop};
+    ghost use Rattle.rm_exchange.specs.declared.removal.Removal.{Removal};
+    ghost use Rattle.rm_exchange.specs.Removals.{AreRounds};
+
+    ghost Value = { List (Option Removal) };
+
+    ghost view = { λ t. drop t.width t.entries.items };
+
+    ghost invariant = { λ t. AreRounds t.width t.entries.items };
+}
+
+impl Tournament {
+    // So many rivals, all empty.
+    pub(crate) fn new(alloc: Global, width: usize) -> Result<Tournament, NoMemory>
+        requires { width < 2 ^ 40 }
+        ensures { IfOk result (λ t. t ≡ replicate width None) }
+    {
+        let mut entries = Vec::with_capacity(alloc, 2 * width)?;
+        for _ in 0..2 * width {
+            entries.push(None)?;
+        }
+        Ok(Tournament { width, entries })
+    }
+
+    // The cheapest of the rivals.
+    pub(crate) fn best(&self) -> Option<Removal>
+        ensures { IsCheapestOf self.now result }
+    {
+        if self.width == 0 {
+            return None;
+        }
+        self.entries[1]
+    }
+
+    // Changes one rival.
+    pub(crate) fn put(&mut self, place: usize, rival: Option<Removal>)
+        requires { place < length self.old }
+        ensures { self.new ≡ set self.old place rival }
+    {
+        let mut j = self.width + place;
+        self.entries[j] = rival;
+        while j > 1 {
+            j /= 2;
+            self.entries[j] = cheaper(self.entries[2 * j], self.entries[2 * j + 1]);
+        }
+    }
+}
