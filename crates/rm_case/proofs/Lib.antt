@@ -1,0 +1,11 @@
+mod BoardLemmas
+mod FitsLemmas
+mod FolderChecks
+mod Markets
+mod OfferRows
+mod OrderLemmas
+mod Solved
+mod Titles
+mod Told
+mod TurnLemmas
+mod TurnRuns

@@ -1,0 +1,22 @@
+use Rattle.std.proofs.Common.{arith}
+use Rattle.rm_case.proofs.OfferRows.{none-offered, one-more, one-refused, all-offered, stops-own}
+use Rattle.rm_case.proofs.offers.Offers.read_rows.Goals as goal
+
+pub returns-in-Err-clause-reads : goal.returns-in-Err-clause-reads
+returns-in-Err-clause-reads c =
+    let lt = rw c.rows-i-end.ensures at c.loop-i-test.true in
+    let stops = rw c.deref.ensures.value at c.in-Err.ensures.stops in
+    stops-own _ _ c.in-Err.fault (λ refusal some. one-refused c.args.case.now c.args.table.now c.loop-i.i c.loop-i.rows.items c.loop-i.contracts.items c.row.result c.loop-i.invariant refusal lt c.row.ensures some)
+    stops
+
+pub loop-i-preserved : goal.loop-i-preserved
+loop-i-preserved c =
+    let lt = rw c.rows-i-end.ensures at c.loop-i-test.true in
+    let passes = rw c.deref.ensures.value at c.in-Ok-read_offer.ensures.passes in
+    let told = rw c.deref.ensures.value at c.in-Ok-read_offer.ensures.contract in
+    let pushed = rw c.if-is_err.ensures.negation at c.push.ensures.items in
+    rw pushed (one-more c.args.case.now c.args.table.now c.loop-i.i c.loop-i.rows.items c.loop-i.contracts.items c.row.result c.loop-i.invariant c.in-Ok-read_offer.x lt c.row.ensures passes told.0 told.1 told.2)
+
+pub returns-clause-reads : goal.returns-clause-reads
+returns-clause-reads c =
+    all-offered c.args.case.now c.args.table.now c.loop-i.i c.loop-i.rows.items c.loop-i.contracts.items c.loop-i.invariant (omega arith)

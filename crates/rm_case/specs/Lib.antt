@@ -1,0 +1,10 @@
+pub mod Folder
+pub mod Compiled
+pub mod Case
+pub mod Parts
+pub mod Fits
+pub mod NodeSteps
+pub mod Loading
+pub mod Fetching
+pub mod Own
+pub mod Solving

@@ -1,0 +1,20 @@
+//! The case of a folder: what its files say, the market that they make, and the placement of that market.
+#![tactic(auto)]
+
+mod case;
+mod compile;
+mod fault;
+mod folder;
+mod load;
+mod node_steps;
+mod offers;
+mod orders;
+mod own_file;
+mod solve;
+mod table_file;
+mod turns;
+
+pub use case::{Case, NodeName};
+pub use fault::{LoadFault, OwnFault};
+pub use offers::Offers;
+pub use own_file::fetch_own;
