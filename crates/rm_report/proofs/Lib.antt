@@ -1,0 +1,5 @@
+pub mod ContractNames
+pub mod Lines
+pub mod ListedCounts
+mod Rows
+pub mod TextRows

@@ -1,0 +1,12 @@
+//! The texts that the commands write about a case. Each call refuses for want of memory alone.
+#![tactic(auto)]
+
+mod certificate;
+mod check;
+mod placement;
+mod writing;
+
+pub use certificate::certificate_text;
+pub use check::check_text;
+pub use placement::placement_text;
+pub use rm_base::NoMemory;
