@@ -1,10 +1,11 @@
 -- What an ending says of the status and of the texts.
-use Rattle.std.proofs.Common.{◌≡◌, ◌≢◌, ◌≤◌, ◌⊎◌, ◌↔◌, ℕ, [], Option, Some, None, IsSome, IfSome, inl, inr, true≢false, refl, sym, arith}
+use Rattle.std.proofs.Common.{◌≡◌, ◌≢◌, ◌≤◌, ◌⊎◌, ◌↔◌, ℕ, Option, Some, None, IfSome, inl, inr, true≢false, refl, sym, arith}
 use Rattle.rm_base.specs.Text.{Text, Files}
 use Rattle.rm_outside.specs.Outside.{HasRisen}
-use Rattle.rm_top.specs.Answers.{written, bad_words, refused, read_failed, write_failed, no_memory, WroteText, WrotePart, IsRefusedWhere, IsErrorText, IsComplete, IsRefusalText, HasAnswered, refusal_of}
-use Rattle.rm_top.specs.Command.{Command}
-use Rattle.rm_top.specs.Ending.{status_of, text_of, Seen, IsAccepted, EndsCommand, Ends}
+use Rattle.rm_top.specs.Answers.{written, bad_words, refused, read_failed, write_failed, no_memory, WroteText, WrotePart, IsRefusedWhere, IsErrorText, IsComplete, IsRefusalText, HasAnswered}
+use Rattle.rm_top.specs.Command.{Command, refusal_of}
+use Rattle.rm_top.specs.Ending.{status_of, text_of, Seen, EndsCommand, Ends}
+use Rattle.rm_top.specs.Telling.{HasNoRefusal}
 use Rattle.rm_top.specs.declared.ending.Ending.{Ending}
 use Rattle.rm_top.specs.declared.ending.Ending.TheVariants as end
 
@@ -77,8 +78,8 @@ unchanged-of s (Some c) (end.ReadFailed text) h x y = h.2
 unchanged-of s (Some c) end.WriteFailed h x y = absurd (y refl)
 unchanged-of s (Some c) end.NoMemory h x y = h
 
--- a folder that is accepted has no refusal, and one that is refused has one
-none-refused : (files : Option Files) (c : Command) (status : ℕ) → status ≢ refused → IsAccepted files c → IsRefusedWhere files (Some c) status
+-- a command that nothing refuses isn't refused, and one that is refused has a refusal
+none-refused : (files : Option Files) (c : Command) (status : ℕ) → status ≢ refused → HasNoRefusal files c → IsRefusedWhere files (Some c) status
 none-refused None c status other h = tt
 none-refused (Some fs) c status other h = (λ x. absurd (other x), λ some. absurd (true≢false (sym (rw h at some))))
 
@@ -91,7 +92,7 @@ is-refused None c text h = tt
 is-refused (Some fs) c text (r, same, some) = (λ x. rw some refl, λ has answered. refl)
 
 pub refused-of : (s : Seen) (o : Option Command) (e : Ending) → Ends s o e → IsRefusedWhere s.files o (status_of e)
-refused-of s None e h = λ x. omega (arith, rw h.0 at x)
+refused-of s None e h = tt
 refused-of s (Some c) end.Written h = none-refused s.files c written (λ x. omega (arith, x)) h.1
 refused-of s (Some c) end.BadWords h = absurd h
 refused-of s (Some c) (end.Refused text) h = is-refused s.files c _ h.0
@@ -109,7 +110,7 @@ refused-complete (Some fs) c text status (r, same, some) = λ none. absurd (cc)
 
 pub complete-of : (s : Seen) (o : Option Command) (e : Ending) → Ends s o e
     → IsComplete s.files o (status_of e) (HasRisen s.shelf_before s.shelf_after) (HasRisen s.out_before s.out_after)
-complete-of s None e h = λ x. omega (arith, rw h.0 at x)
+complete-of s None e h = tt
 complete-of s (Some c) end.Written h = λ calm still. complete-when s.files c written (inl refl)
 complete-of s (Some c) end.BadWords h = absurd h
 complete-of s (Some c) (end.Refused text) h = λ calm still. refused-complete s.files c _ refused h.0

@@ -1,12 +1,6 @@
 pub mod Answering
+pub mod Chosen
 pub mod Endings
-pub mod FillingSeats
-pub mod FirstFew
-pub mod FirstSeats
-pub mod FolderChecks
-pub mod Marks
 pub mod Pieces
-pub mod PlainStable
-pub mod Reporting
-pub mod TextRows
 pub mod PlacesWithin
+pub mod Reporting

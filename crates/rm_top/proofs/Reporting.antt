@@ -1,5 +1,5 @@
 -- What is reported where nothing is put.
-use Rattle.std.proofs.Common.{◌≡◌, ◌++◌, ℕ, List, [], Option, Some, None, inl, refl, sym, ap}
+use Rattle.std.proofs.Common.{◌≡◌, ℕ, [], Option, Some, None, inl, refl, sym, ap}
 use Rattle.std.proofs.lemmas.List.{append-nil}
 use Rattle.rm_base.specs.Text.{Text}
 use Rattle.rm_outside.specs.Outside.{Gains}

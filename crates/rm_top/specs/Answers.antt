@@ -1,14 +1,18 @@
 -- The answers of the program, each with its cause and with what it writes.
-use Rattle.std.specs.Prelude.{◌≡◌, ◌≢◌, ◌⊎◌, ℕ, List, [], Option, Some, None, IsSome, IfSome}
+use Rattle.std.specs.Prelude.{◌≡◌, ◌≢◌, ◌⊎◌, ℕ, List, [], Option, Some, None, Ok, IsSome, IfSome}
+use Rattle.std.specs.FinMap.{get}
 use Rattle.rm_base.specs.Text.{Text, Files}
 use Rattle.rm_base.specs.declared.Refusal.{Refusal}
-use Rattle.rm_market.specs.Market.{places_of}
+use Rattle.rm_base.specs.declared.codes.TheConstants.{OWN_FILE}
+use Rattle.rm_market.specs.Certificate.{certificate}
+use Rattle.rm_market.specs.Market.{Best, places_of}
 use Rattle.rm_outside.specs.Outside.{HasRisen, Gains, GainsPart}
-use Rattle.rm_roster.specs.Roster.{RosterData}
-use Rattle.rm_top.specs.Command.{Command, place, check, folder_in, file_in}
-use Rattle.rm_top.specs.Folder.{folder_of, folder_refusal, folder_roster}
-use Rattle.rm_top.specs.Headline.{IsPlainStable, market_of}
-use Rattle.rm_top.specs.Texts.{placement_text, check_text, usage_text, refusal_text, read_fault_text, write_fault_text, no_memory_text}
+use Rattle.rm_case.specs.Case.{CaseData, market_of, market}
+use Rattle.rm_case.specs.Own.{own_of}
+use Rattle.rm_report.specs.Texts.{placement_text, check_text, certificate_text}
+use Rattle.rm_top.specs.Command.{Command, place, check, choose, folder_in, file_of, refusal_of}
+use Rattle.rm_top.specs.Headline.{IsPlaced}
+use Rattle.rm_top.specs.Texts.{usage_text, refusal_text, read_fault_text, write_fault_text, no_memory_text}
 
 -- ---- statuses
 
@@ -36,14 +40,23 @@ HasAnswered status = (status ≢ read_failed) × (status ≢ no_memory)
 
 -- ---- the text of each command
 
--- the text of a command on the roster of its folder
-abbrev pub IsRosterText : Command → RosterData → Text → Type 0
-IsRosterText (place F) r text = (S : List ℕ) × IsPlainStable r S × (text ≡ placement_text r (places_of (market_of r) S))
-IsRosterText (check F) r text = text ≡ check_text r
+-- the text of the placement of a case
+abbrev pub IsPlacementText : CaseData → Text → Type 0
+IsPlacementText c text = (S : List ℕ) × IsPlaced c S × (text ≡ placement_text c (places_of (market c) S))
 
--- the same where the files are told
+-- the text of the best subset of some offers, with a row for each of them
+abbrev pub IsChoiceText : CaseData → List ℕ → Text → Type 0
+IsChoiceText c offers text = (S : List ℕ) × Best (market c) offers S × (text ≡ certificate_text c (certificate (market c).board offers S))
+
+-- the text of a command on the case of its folder, where these are the files
+abbrev pub IsCaseText : Files → Command → CaseData → Text → Type 0
+IsCaseText files (place F) c text = IsPlacementText c text
+IsCaseText files (check F) c text = text ≡ check_text c
+IsCaseText files (choose F own) c text = (offers : List ℕ) × (own_of c (get files own) ≡ Ok offers) × IsChoiceText c offers text
+
+-- the same where the files are told: the folder is accepted
 abbrev pub IsTextOf : Option Files → Command → Text → Type 0
-IsTextOf files c text = IfSome files (λ fs. IsRosterText c (folder_roster (folder_of fs (folder_in c))) text)
+IsTextOf files command text = IfSome files (λ fs. (c : CaseData) × (market_of fs (folder_in command) ≡ Ok c) × IsCaseText fs command c text)
 
 -- ---- what `out` gained: some text of the command, or a front of it
 
@@ -59,20 +72,21 @@ pub record WrotePart (files : Option Files) (command : Option Command) (before a
 
 -- ---- the causes
 
--- the first refusal of a command's folder
-abbrev pub refusal_of : Files → Command → Option Refusal
-refusal_of files c = folder_refusal (folder_of files (folder_in c))
-
--- status 3 comes exactly where the fetches answered and the folder is refused
+-- status 3 comes exactly where the needed fetches answered and the folder, or else the command's own file, is refused
 abbrev pub IsRefusedWhere : Option Files → Option Command → ℕ → Type 0
-IsRefusedWhere files None status = status ≢ refused
+IsRefusedWhere files None status = Unit {0}
 IsRefusedWhere files (Some command) status =
     IfSome files (λ fs. (status ≡ refused → IsSome (refusal_of fs command)) × (IsSome (refusal_of fs command) → HasAnswered status → status ≡ refused))
 
+-- the folder is accepted, so that the command's own file is asked for
+abbrev pub IsAccepted : Option Files → Text → Type 0
+IsAccepted files F = IfSome files (λ fs. (c : CaseData) × (market_of fs F ≡ Ok c))
+
 -- the file on which a read failed: one that the command needs, and the shelf's blame where it is told
-pub record FailedOn (blame : Option (Option Text)) (command : Command) (file : ℕ) : Type 0 where
+pub record FailedOn (files : Option Files) (blame : Option (Option Text)) (command : Command) (file : ℕ) : Type 0 where
   pub name : Text
-  pub file_is : file_in (folder_in command) file ≡ Some name
+  pub file_is : file_of command file ≡ Some name
+  pub needed : file ≡ OWN_FILE → IsAccepted files (folder_in command)
   pub blamed : IfSome blame (λ b. b ≡ Some name)
 
 -- ---- what `err` gained
@@ -86,16 +100,16 @@ abbrev pub IsRefusalText : Option Files → Option Command → Text → Type 0
 IsRefusalText files None text = ⊥
 IsRefusalText files (Some command) text = (r : Refusal) × (text ≡ refusal_text r) × IfSome files (λ fs. refusal_of fs command ≡ Some r)
 
-abbrev pub IsReadFaultText : Option (Option Text) → Option Command → Text → Type 0
-IsReadFaultText blame None text = ⊥
-IsReadFaultText blame (Some command) text = (file : ℕ) × FailedOn blame command file × (text ≡ read_fault_text file)
+abbrev pub IsReadFaultText : Option Files → Option (Option Text) → Option Command → Text → Type 0
+IsReadFaultText files blame None text = ⊥
+IsReadFaultText files blame (Some command) text = (file : ℕ) × FailedOn files blame command file × (text ≡ read_fault_text file)
 
 -- the text on `err` for each status; nothing where the text was written
 pub record IsErrorText (files : Option Files) (blame : Option (Option Text)) (command : Option Command) (status : ℕ) (text : Text) : Type 0 where
   pub nothing : status ≡ written → text ≡ []
   pub usage : status ≡ bad_words → text ≡ usage_text
   pub refusal : status ≡ refused → IsRefusalText files command text
-  pub read_fault : status ≡ read_failed → IsReadFaultText blame command text
+  pub read_fault : status ≡ read_failed → IsReadFaultText files blame command text
   pub write_fault : status ≡ write_failed → text ≡ write_fault_text
   pub memory : status ≡ no_memory → text ≡ no_memory_text
 
@@ -103,6 +117,6 @@ pub record IsErrorText (files : Option Files) (blame : Option (Option Text)) (co
 
 -- without faults, a command that nothing refuses is answered, or memory is wanting
 abbrev pub IsComplete : Option Files → Option Command → ℕ → Type 0 → Type 0 → Type 0
-IsComplete files None status shelf_failed out_failed = status ≢ written
+IsComplete files None status shelf_failed out_failed = Unit {0}
 IsComplete files (Some command) status shelf_failed out_failed =
     ¬ shelf_failed → ¬ out_failed → IfSome files (λ fs. refusal_of fs command ≡ None → (status ≡ written) ⊎ (status ≡ no_memory))

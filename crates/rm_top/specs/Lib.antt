@@ -1,9 +1,6 @@
 pub mod Answers
 pub mod Command
 pub mod Ending
-pub mod Folder
 pub mod Headline
-pub mod Loading
-pub mod Open
-pub mod Seats
+pub mod Telling
 pub mod Texts

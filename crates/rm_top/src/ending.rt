@@ -3,9 +3,12 @@
 ghost use Rattle.std.specs.Prelude.{◌≡◌};
 ghost use Rattle.rm_top.specs.Answers.{Reports};
 ghost use Rattle.rm_top.specs.Ending.{status_of, text_of};
+ghost use Rattle.rm_top.specs.Telling.{SaysWhy};
 
-use crate::texts::USAGE;
+use crate::texts::{USAGE, read_fault_text, refusal_text};
+use rm_case::LoadFault;
 use rm_outside::Sink;
+use std::alloc::Global;
 
 /// How a call ends, with the text that names a refusal or a file on which a read failed.
 #[derive(Debug, Drop)]
@@ -19,6 +22,23 @@ pub enum Ending {
 }
 
 impl Ending {
+    /// The ending of a command that has no text: it names why, or memory is wanting for the name.
+    pub fn without_text(alloc: Global, fault: LoadFault) -> Ending
+        ensures { SaysWhy fault result }
+    {
+        match fault {
+            LoadFault::Refused(refusal) => match refusal_text(alloc, &refusal) {
+                Ok(text) => Ending::Refused(text),
+                Err(_) => Ending::NoMemory,
+            },
+            LoadFault::Read(file) => match read_fault_text(alloc, file) {
+                Ok(text) => Ending::ReadFailed(text),
+                Err(_) => Ending::NoMemory,
+            },
+            LoadFault::NoMemory => Ending::NoMemory,
+        }
+    }
+
     /// The status.
     pub fn status(&self) -> u8
         ensures { result ≡ status_of self.now }

@@ -1,50 +1,29 @@
 //! The top call, which does all that the program does.
 #![tactic(auto)]
 
-ghost use Rattle.std.specs.Prelude.{◌≡◌, ◌≢◌, ◌⊎◌, ◌≤◌, ◌↔◌, ℕ, map, Option, Some, None, string_bytes, IfOk};
+ghost use Rattle.std.specs.Prelude.{◌≡◌, ◌≢◌, ◌≤◌, ◌↔◌, map, Some, None, string_bytes};
 ghost use Rattle.rm_base.specs.Text.{Text};
 ghost use Rattle.rm_outside.specs.Outside.{HasRisen};
-ghost use Rattle.rm_top.specs.Answers.{written, bad_words, read_failed, write_failed, no_memory, WroteText, WrotePart, IsRosterText, IsRefusedWhere, Reports, IsErrorText, IsComplete};
+ghost use Rattle.rm_top.specs.Answers.{written, bad_words, read_failed, write_failed, no_memory, WroteText, WrotePart, IsRefusedWhere, Reports, IsErrorText, IsComplete};
 ghost use Rattle.rm_top.specs.Command.{command_of, meant};
 ghost use Rattle.rm_top.specs.Ending.{Ends, EndsCommand};
 
+mod choosing;
 mod command;
 mod ending;
-mod folder;
 mod output;
-mod rounds;
-mod seats;
+mod telling;
 mod texts;
 
 use command::{Command, command_of};
 use ending::{Ending, report};
-use folder::{LoadFault, load};
 use output::put_text;
 use rm_outside::{Shelf, Sink};
-use rm_roster::Roster;
-use rounds::place_all;
 use std::alloc::{AllocError, Global};
-use texts::{check_text, placement_text, read_fault_text, refusal_text};
+use telling::text_of;
 
 /// Want of memory, where it is the only refusal.
 pub type NoMemory = AllocError;
-
-// The text of a command on the roster of its folder.
-fn text_on(alloc: Global, command: Command<'_>, roster: &Roster) -> Result<Vec<u8>, NoMemory>
-    ensures { IfOk result (λ text. IsRosterText (meant command.entry) roster.now text.items) }
-{
-    match command {
-        Command::Place(_) => {
-            let places = place_all(alloc, roster)?;
-            let text = placement_text(alloc, roster, &places)?;
-            Ok(text)
-        }
-        Command::Check(_) => {
-            let text = check_text(alloc, roster)?;
-            Ok(text.into_bytes())
-        }
-    }
-}
 
 // Does what a command says.
 fn answer<S: Shelf, O: Sink>(
@@ -56,23 +35,12 @@ fn answer<S: Shelf, O: Sink>(
     ensures ends { EndsCommand (record { files = S.files shelf.old; blame = S.blame shelf.new; shelf_before = S.faults shelf.old; shelf_after = S.faults shelf.new; out_before = O.faults out.old; out_after = O.faults out.new; before = O.written out.old; after = O.written out.new }) (meant command.entry) result }
     ensures files { S.files shelf.new ≡ S.files shelf.old }
 {
-    match load(alloc, command.folder(), shelf) {
-        Ok(roster) => match text_on(alloc, command, &roster) {
-            Ok(text) => match put_text(out, &text) {
-                Ok(()) => Ending::Written,
-                Err(_) => Ending::WriteFailed,
-            },
-            Err(_) => Ending::NoMemory,
+    match text_of(alloc, command, shelf) {
+        Ok(text) => match put_text(out, &text) {
+            Ok(()) => Ending::Written,
+            Err(_) => Ending::WriteFailed,
         },
-        Err(LoadFault::Refused(refusal)) => match refusal_text(alloc, &refusal) {
-            Ok(text) => Ending::Refused(text),
-            Err(_) => Ending::NoMemory,
-        },
-        Err(LoadFault::Read(file)) => match read_fault_text(alloc, file) {
-            Ok(text) => Ending::ReadFailed(text),
-            Err(_) => Ending::NoMemory,
-        },
-        Err(LoadFault::NoMemory) => Ending::NoMemory,
+        Err(fault) => Ending::without_text(alloc, fault),
     }
 }
 
@@ -88,8 +56,8 @@ fn perform<S: Shelf, O: Sink>(alloc: Global, words: &[String], shelf: &mut S, ou
 }
 
 /// Does all that the program does with these words, which stand after its name, and answers its status: 0 where the text was
-/// written, 2 where the words spell no command, 3 where the folder is refused, 4 where the shelf failed, 5 where `out` failed,
-/// and 6 for want of memory. What `err` gains says which.
+/// written, 2 where the words spell no command, 3 where the folder or the command's own file is refused, 4 where the shelf failed,
+/// 5 where `out` failed, and 6 for want of memory. What `err` gains says which.
 pub fn run<S: Shelf, O: Sink, E: Sink>(
     alloc: Global,
     words: &[String],

@@ -1,6 +1,6 @@
 // A text put to a sink in pieces.
 
-ghost use Rattle.std.specs.Prelude.{◌≡◌, ◌≤◌, OnOk, OnErr};
+ghost use Rattle.std.specs.Prelude.{◌≤◌, OnOk, OnErr};
 ghost use Rattle.rm_outside.specs.Outside.{HasRisen, Gains, GainsPart};
 
 use rm_outside::{PutFault, Sink};

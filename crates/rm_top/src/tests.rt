@@ -1,11 +1,11 @@
-// Whole calls over files in memory: what a folder comes to, which fault ends a call, and how many fetches and puts are made.
+// Whole calls over files in memory: what a command comes to, which fault ends a call, and how many fetches and puts are made.
 
 use super::*;
 use rm_outside::FetchFault;
 use rm_outside::memory::{MemoryShelf, MemorySink};
 use std::test::Fail;
 
-// A call on the files of a folder F, and what is wanted of it.
+// A call on the files of a folder F and of offers O, and what is wanted of it.
 #[derive(Clone, Copy)]
 struct Row<'a> {
     name: &'static str,
@@ -14,6 +14,7 @@ struct Row<'a> {
     doctors: &'a [u8],
     ranks: Option<&'a [u8]>,
     policy: Option<&'a [u8]>,
+    offers: Option<&'a [u8]>,
     // The numbers of the fetches, of the puts to `out` and of the puts to `err` that fail, counted from 1. The last number of
     // each list is that of the first one that isn't made.
     fetches: &'a [u32],
@@ -24,15 +25,14 @@ struct Row<'a> {
     err: &'a [u8],
 }
 
-const DOCTORS: &[u8] = b"doctor,choices\nA,H1,H2\n";
-
 const PLACED: Row<'static> = Row {
     name: "a choice that doesn't rank him back is passed over",
     words: &["place", "F"],
     hospitals: b"hospital,prefecture,capacity,target\nH1,P,1,0\nH2,P,1,0\n",
-    doctors: DOCTORS,
+    doctors: b"doctor,choices\nA,H1,H2\n",
     ranks: Some(b"hospital,doctors\nH2,A\n"),
     policy: None,
+    offers: None,
     fetches: &[5],
     puts: &[2],
     reports: &[1],
@@ -41,11 +41,36 @@ const PLACED: Row<'static> = Row {
     err: b"",
 };
 
-const CHECKED: Row<'static> = Row {
-    name: "counts",
-    words: &["check", "F"],
-    out: b"kind steps\nties by-rank\nhospitals 2\ndoctors 1\ncontracts 1\nlisted 1\nnodes 2\ndepth 1\n",
+const FLEXIBLE: Row<'static> = Row {
+    name: "a prefecture's one seat goes to the hospital that its order has first",
+    doctors: b"doctor,choices\nA,H2,H1\nB,H1\n",
+    ranks: Some(b"hospital,doctors\nH1,A,B\nH2,A\n"),
+    policy: Some(
+        b"version = 1\nkind = \"flexible\"\n[[prefecture]]\nname = \"P\"\ncap = 1\norder = [\"H1\", \"H2\"]\n",
+    ),
+    out: b"doctor,hospital\nA,H1\nB,\n",
     ..PLACED
+};
+
+const STEPS: Row<'static> = Row {
+    name: "a seat that would lower the worth stays empty",
+    hospitals: b"hospital,prefecture,capacity,target\nH1,P,2,0\n",
+    doctors: b"doctor,choices\nA,H1\nB,H1\n",
+    ranks: Some(b"hospital,doctors\nH1,B,A\n"),
+    policy: Some(
+        b"version = 1\nkind = \"steps\"\n[[hospital]]\nname = \"H1\"\nsteps = [[0, 1], [-1, 1]]\n",
+    ),
+    out: b"doctor,hospital\nA,\nB,H1\n",
+    ..PLACED
+};
+
+const CHOSEN: Row<'static> = Row {
+    name: "what each offer changes",
+    words: &["choose", "F", "O"],
+    offers: Some(b"doctor,hospital\nA,H1\nB,H1\n"),
+    fetches: &[6],
+    out: b"doctor,hospital,answer,change,full,swap_doctor,swap_hospital,swap_change\nA,H1,refused,-1,,B,H1,0\nB,H1,kept,0,,,,\n",
+    ..STEPS
 };
 
 const REFUSED: Row<'static> = Row {
@@ -64,7 +89,7 @@ const NO_COMMAND: Row<'static> = Row {
     words: &[],
     fetches: &[1],
     status: 2,
-    err: b"usage: rm_match place F | check F\n",
+    err: b"usage: rm_match place F | check F | choose F OFFERS\n",
     ..REFUSED
 };
 
@@ -76,7 +101,17 @@ const UNREAD: Row<'static> = Row {
     ..REFUSED
 };
 
-static ROWS: [Row<'static>; 30] = [
+const UNWRITTEN: Row<'static> = Row {
+    name: "the put fails",
+    puts: &[1, 2],
+    reports: &[2],
+    status: 5,
+    out: b"",
+    err: b"write fault\n",
+    ..PLACED
+};
+
+static WRITTEN_ROWS: [Row<'static>; 9] = [
     PLACED,
     Row {
         name: "no doctors and no ranks",
@@ -94,74 +129,31 @@ static ROWS: [Row<'static>; 30] = [
         ..PLACED
     },
     Row {
-        name: "a full hospital keeps whom it ranks higher",
-        doctors: b"doctor,choices\nA,H1\nB,H1\n",
-        ranks: Some(b"hospital,doctors\nH1,B,A\n"),
-        out: b"doctor,hospital\nA,\nB,H1\n",
+        name: "each doctor's best, where each hospital's best would be the other one",
+        doctors: b"doctor,choices\nA,H1,H2\nB,H2,H1\n",
+        ranks: Some(b"hospital,doctors\nH1,B,A\nH2,A,B\n"),
+        out: b"doctor,hospital\nA,H1\nB,H2\n",
+        ..PLACED
+    },
+    FLEXIBLE,
+    STEPS,
+    Row {
+        name: "counts",
+        words: &["check", "F"],
+        out: b"kind steps\nties by-rank\nhospitals 2\ndoctors 1\ncontracts 1\nlisted 1\nnodes 2\ndepth 1\n",
         ..PLACED
     },
     Row {
-        name: "the greatest capacity",
-        hospitals: b"hospital,prefecture,capacity,target\nH1,P,10000,0\nH2,P,1,0\n",
-        ..PLACED
+        name: "counts with a prefecture's node",
+        words: &["check", "F"],
+        out: b"kind flexible\nties by-rank\nhospitals 2\ndoctors 2\ncontracts 3\nlisted 3\nnodes 3\ndepth 2\n",
+        ..FLEXIBLE
     },
-    Row {
-        name: "the longest name",
-        hospitals: b"hospital,prefecture,capacity,target\nnnnnnnnnnnnnnnnnnnnnnnnnnnnnnnnnnnnnnnnnnnnnnnnnnnnnnnnnnnnnnnnn,P,1,0\n",
-        doctors: b"doctor,choices\nA\n",
-        ranks: Some(b"hospital,doctors\n"),
-        out: b"doctor,hospital\nA,\n",
-        ..PLACED
-    },
-    CHECKED,
-    Row {
-        name: "counts without hospitals",
-        hospitals: b"hospital,prefecture,capacity,target\n",
-        doctors: b"doctor,choices\n",
-        ranks: Some(b"hospital,doctors\n"),
-        out: b"kind steps\nties by-rank\nhospitals 0\ndoctors 0\ncontracts 0\nlisted 0\nnodes 0\ndepth 0\n",
-        ..CHECKED
-    },
+    CHOSEN,
+];
+
+static REFUSED_ROWS: [Row<'static>; 10] = [
     REFUSED,
-    Row {
-        name: "a choice that was cut short",
-        hospitals: b"hospital,prefecture,capacity,target\nHama,P,1,0\n",
-        doctors: b"doctor,choices\nA,Ha",
-        ranks: Some(b"hospital,doctors\nHama,A\n"),
-        err: b"refused 19 2 1 2\n",
-        ..REFUSED
-    },
-    Row {
-        name: "a capacity above the limit",
-        hospitals: b"hospital,prefecture,capacity,target\nH1,P,10001,0\n",
-        err: b"refused 17 1 1 3\n",
-        ..REFUSED
-    },
-    Row {
-        name: "a name that is too long",
-        hospitals: b"hospital,prefecture,capacity,target\nnnnnnnnnnnnnnnnnnnnnnnnnnnnnnnnnnnnnnnnnnnnnnnnnnnnnnnnnnnnnnnnnn,P,1,0\n",
-        err: b"refused 14 1 1 1\n",
-        ..REFUSED
-    },
-    Row {
-        name: "a target that is no number",
-        hospitals: b"hospital,prefecture,capacity,target\nH1,P,1,x\n",
-        err: b"refused 16 1 1 4\n",
-        ..REFUSED
-    },
-    Row {
-        name: "a repeated doctor",
-        doctors: b"doctor,choices\nA,H1\nA,H1\n",
-        err: b"refused 15 2 2 1\n",
-        ..REFUSED
-    },
-    Row {
-        name: "a doctor ranked twice",
-        doctors: b"doctor,choices\nA,H1\n",
-        ranks: Some(b"hospital,doctors\nH1,A,A\n"),
-        err: b"refused 21 3 1 3\n",
-        ..REFUSED
-    },
     Row {
         name: "a row that isn't text",
         doctors: b"doctor,choices\nA,H1\n\xff,H1\n",
@@ -175,16 +167,16 @@ static ROWS: [Row<'static>; 30] = [
         ..REFUSED
     },
     Row {
-        name: "a policy, though empty",
-        doctors: DOCTORS,
+        name: "an empty policy",
+        doctors: b"doctor,choices\nA,H1\n",
         policy: Some(b""),
-        err: b"refused 28 4 0 0\n",
+        err: b"refused 32 4 0 1\n",
         ..REFUSED
     },
     Row {
-        name: "a policy comes after what the tables say",
+        name: "an empty policy comes after what the tables say",
         words: &["check", "F"],
-        policy: Some(b"version = 1\nkind = \"steps\"\n"),
+        policy: Some(b""),
         ..REFUSED
     },
     Row {
@@ -193,15 +185,35 @@ static ROWS: [Row<'static>; 30] = [
         err: b"",
         ..REFUSED
     },
-    NO_COMMAND,
     Row {
-        name: "no folder",
-        words: &["place"],
-        ..NO_COMMAND
+        name: "no offers",
+        words: &["choose", "F", "O"],
+        doctors: b"doctor,choices\nA,H1\n",
+        fetches: &[6],
+        err: b"refused 10 5 0 0\n",
+        ..REFUSED
     },
     Row {
-        name: "a command that is not built",
-        words: &["drill", "0", "1"],
+        name: "an offer of no doctor",
+        words: &["choose", "F", "O"],
+        doctors: b"doctor,choices\nA,H1\n",
+        offers: Some(b"doctor,hospital\nZ,H2\n"),
+        fetches: &[6],
+        err: b"refused 60 5 1 1\n",
+        ..REFUSED
+    },
+    Row {
+        name: "where the folder is refused, its offers are not fetched",
+        words: &["choose", "F", "O"],
+        ..REFUSED
+    },
+    NO_COMMAND,
+];
+
+static FAILED_ROWS: [Row<'static>; 8] = [
+    Row {
+        name: "no file of offers",
+        words: &["choose", "F"],
         ..NO_COMMAND
     },
     Row {
@@ -211,14 +223,7 @@ static ROWS: [Row<'static>; 30] = [
     },
     UNREAD,
     Row {
-        name: "the second fetch fails",
-        fetches: &[2, 3],
-        err: b"read fault 2\n",
-        ..UNREAD
-    },
-    Row {
         name: "the third fetch fails",
-        doctors: DOCTORS,
         fetches: &[3, 4],
         err: b"read fault 3\n",
         ..UNREAD
@@ -230,21 +235,21 @@ static ROWS: [Row<'static>; 30] = [
         ..UNREAD
     },
     Row {
-        name: "the put fails",
-        puts: &[1, 2],
+        name: "the fetch of the offers fails",
+        fetches: &[5, 6],
+        puts: &[1],
         reports: &[2],
-        status: 5,
+        status: 4,
         out: b"",
-        err: b"write fault\n",
-        ..PLACED
+        err: b"read fault 5\n",
+        ..CHOSEN
     },
+    UNWRITTEN,
     Row {
         name: "neither put is taken",
-        puts: &[1, 2],
         reports: &[1, 2],
-        status: 5,
-        out: b"",
-        ..PLACED
+        err: b"",
+        ..UNWRITTEN
     },
 ];
 
@@ -257,50 +262,73 @@ fn words_of(alloc: Global, row: &Row<'_>) -> Result<Vec<String>, NoMemory> {
     Ok(words)
 }
 
-// The folder of a row.
-fn shelf_of(alloc: Global, row: &Row<'_>) -> Result<MemoryShelf, NoMemory> {
-    let mut shelf = MemoryShelf::new(row.fetches.to_vec(alloc)?);
+// Adds a file, if it is there.
+fn add(shelf: &mut MemoryShelf, name: &str, file: Option<&[u8]>) -> Result<(), NoMemory> {
+    match file {
+        Some(bytes) => shelf.add(name, bytes),
+        None => Ok(()),
+    }
+}
+
+// Adds the files of a row.
+fn add_files(shelf: &mut MemoryShelf, row: &Row<'_>) -> Result<(), NoMemory> {
     shelf.add("F/hospitals.csv", row.hospitals)?;
     shelf.add("F/doctors.csv", row.doctors)?;
-    if let Some(ranks) = row.ranks {
-        shelf.add("F/ranks.csv", ranks)?;
-    }
-    if let Some(policy) = row.policy {
-        shelf.add("F/policy.toml", policy)?;
-    }
-    Ok(shelf)
+    add(shelf, "F/ranks.csv", row.ranks)?;
+    add(shelf, "F/policy.toml", row.policy)?;
+    add(shelf, "O", row.offers)
 }
 
-// Makes the call of a row, and says whether all is as wanted.
-fn holds(alloc: Global, row: &Row<'_>) -> Result<bool, NoMemory> {
-    let words = words_of(alloc, row)?;
-    let mut shelf = shelf_of(alloc, row)?;
-    let mut out = MemorySink::new(alloc, 5000, row.puts.to_vec(alloc)?)?;
-    let mut err = MemorySink::new(alloc, 100, row.reports.to_vec(alloc)?)?;
-    let status = run(alloc, &words, &mut shelf, &mut out, &mut err);
-    let told = status == row.status && out.bytes() == row.out && err.bytes() == row.err;
-    Ok(told && are_next(alloc, &mut shelf, &mut out, &mut err))
-}
-
-// Whether the calls that come next are those that fail.
-fn are_next(
+// Makes the call of a row, and says whether all is as wanted, and whether the calls that come next are those that fail.
+fn is_answered(
     alloc: Global,
+    row: &Row<'_>,
     shelf: &mut MemoryShelf,
     out: &mut MemorySink,
     err: &mut MemorySink,
-) -> bool {
+) -> Result<bool, NoMemory> {
+    let words = words_of(alloc, row)?;
+    let status = run(alloc, &words, shelf, out, err);
+    let told = status == row.status && out.bytes() == row.out && err.bytes() == row.err;
     let fetched = shelf.fetch(alloc, "", 0);
-    let put = out.put(b"");
-    let reported = err.put(b"");
-    matches!(&fetched, Err(FetchFault::Failed)) && put.is_err() && reported.is_err()
+    let failed = matches!(&fetched, Err(FetchFault::Failed));
+    Ok(told && failed && out.put(b"").is_err() && err.put(b"").is_err())
+}
+
+// Whether the call of a row is answered as wanted.
+fn holds(alloc: Global, row: &Row<'_>) -> Result<bool, NoMemory> {
+    let mut shelf = MemoryShelf::new(row.fetches.to_vec(alloc)?);
+    add_files(&mut shelf, row)?;
+    let mut out = MemorySink::new(alloc, 5000, row.puts.to_vec(alloc)?)?;
+    let mut err = MemorySink::new(alloc, 100, row.reports.to_vec(alloc)?)?;
+    is_answered(alloc, row, &mut shelf, &mut out, &mut err)
+}
+
+// The name of the first row that is answered otherwise than wanted.
+fn first_wrong(alloc: Global, rows: &[Row<'_>]) -> Result<Option<&'static str>, NoMemory> {
+    for row in rows {
+        if !holds(alloc, row)? {
+            return Ok(Some(row.name));
+        }
+    }
+    Ok(None)
 }
 
 #[test]
-fn answers_rows(rt: HostRuntime) -> Result<(), Fail> {
-    for row in &ROWS {
-        let name = row.name;
-        assert!(rt; holds(rt.alloc(), row)?, "{name}");
-    }
+fn writes_texts(rt: HostRuntime) -> Result<(), Fail> {
+    assert_eq!(rt; first_wrong(rt.alloc(), &WRITTEN_ROWS)?, None);
+    Ok(())
+}
+
+#[test]
+fn refuses_files(rt: HostRuntime) -> Result<(), Fail> {
+    assert_eq!(rt; first_wrong(rt.alloc(), &REFUSED_ROWS)?, None);
+    Ok(())
+}
+
+#[test]
+fn ends_at_the_first_fault(rt: HostRuntime) -> Result<(), Fail> {
+    assert_eq!(rt; first_wrong(rt.alloc(), &FAILED_ROWS)?, None);
     Ok(())
 }
 
@@ -314,20 +342,18 @@ fn rows_of_many(alloc: Global, header: &str, end: &str) -> Result<Vec<u8>, NoMem
     Ok(text.into_bytes())
 }
 
-#[test]
-fn puts_pieces(rt: HostRuntime) -> Result<(), Fail> {
-    let alloc = rt.alloc();
-    let doctors = rows_of_many(alloc, "doctor,choices\n", "")?;
-    let placement = rows_of_many(alloc, "doctor,hospital\n", ",")?;
-    let mut piece = rows_of_many(alloc, "doctor,hospital\n", ",")?;
-    piece.truncate(4096);
-    assert!(rt; placement.len() == 4216 && piece.len() == 4096);
+// The first wrong one of three calls whose text has two pieces.
+fn first_wrong_piece<'a>(
+    alloc: Global,
+    doctors: &'a [u8],
+    placement: &'a [u8],
+) -> Result<Option<&'static str>, NoMemory> {
     let whole = Row {
         name: "two pieces",
-        doctors: &doctors,
+        doctors,
         ranks: Some(b"hospital,doctors\n"),
         puts: &[3],
-        out: &placement,
+        out: placement,
         ..PLACED
     };
     let first = Row {
@@ -335,7 +361,7 @@ fn puts_pieces(rt: HostRuntime) -> Result<(), Fail> {
         puts: &[2, 3],
         reports: &[2],
         status: 5,
-        out: &piece,
+        out: &placement[..placement.len().min(4096)],
         err: b"write fault\n",
         ..whole
     };
@@ -345,9 +371,15 @@ fn puts_pieces(rt: HostRuntime) -> Result<(), Fail> {
         out: b"",
         ..first
     };
-    for row in &[whole, first, none] {
-        let name = row.name;
-        assert!(rt; holds(alloc, row)?, "{name}");
-    }
+    first_wrong(alloc, &[whole, first, none])
+}
+
+#[test]
+fn puts_pieces(rt: HostRuntime) -> Result<(), Fail> {
+    let alloc = rt.alloc();
+    let doctors = rows_of_many(alloc, "doctor,choices\n", "")?;
+    let placement = rows_of_many(alloc, "doctor,hospital\n", ",")?;
+    assert_eq!(rt; placement.len(), 4216);
+    assert_eq!(rt; first_wrong_piece(alloc, &doctors, &placement)?, None);
     Ok(())
 }

@@ -1,4 +1,4 @@
-use Rattle.std.proofs.Common.{◌≡◌, ◌+◌, ◌-◌, ◌≤◌, length, take, arith, rules}
+use Rattle.std.proofs.Common.{◌≡◌, ◌+◌, ◌-◌, ◌≤◌, length, arith, rules}
 use Rattle.rm_top.proofs.Pieces.{gains-more, gains-part}
 use Rattle.rm_top.proofs.output.put_text.Goals as goal
 

@@ -1,0 +1,8 @@
+use Rattle.rm_top.proofs.PlacesWithin.{places_long, places_within}
+use Rattle.rm_top.proofs.telling.place_text.Goals as goal
+
+pub placement_text-requires-clause-doctors : goal.placement_text-requires-clause-doctors
+placement_text-requires-clause-doctors c = rw c.in_ok-places.ensures.solved.places (places_long c.args.case.now c.in_ok-places.ensures.solved.set c.solve.ensures.case)
+
+pub placement_text-requires-clause-hospitals : goal.placement_text-requires-clause-hospitals
+placement_text-requires-clause-hospitals c = rw c.in_ok-places.ensures.solved.places (places_within c.args.case.now c.in_ok-places.ensures.solved.set c.solve.ensures.case c.in_ok-places.ensures.solved.placement)

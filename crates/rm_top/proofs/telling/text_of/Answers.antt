@@ -1,0 +1,20 @@
+use Rattle.std.proofs.lemmas.Result.{IfOk-weaker, IfErr-weaker}
+use Rattle.rm_top.specs.Command.{meant}
+use Rattle.rm_top.proofs.Answering.{stops_first, stops_later, text_found}
+use Rattle.rm_top.proofs.telling.text_of.Goals as goal
+
+pub returns-clause-text : goal.returns-clause-text
+returns-clause-text g c =
+    IfOk-weaker c.text_on.result _ _
+    (λ text has. text_found _ (meant c.args.command) c.in-Ok.case text.items (rw c.folder.ensures at c.in-Ok.ensures.loads) has)
+    (rw c.load.ensures.files at c.text_on.ensures.text)
+
+pub returns-clause-stops : goal.returns-clause-stops
+returns-clause-stops g c =
+    IfErr-weaker c.text_on.result _ _
+    (λ fault stops. stops_later _ _ _ _ _ (meant c.args.command) c.in-Ok.case fault (rw c.folder.ensures at c.in-Ok.ensures.loads) c.in-Ok.ensures.later stops)
+    (rw c.load.ensures.files at c.text_on.ensures.stops)
+
+pub returns-in-Err-clause-stops : goal.returns-in-Err-clause-stops
+returns-in-Err-clause-stops g c =
+    stops_first _ _ _ _ (meant c.args.command) c.folder.result.now c.in-Err.fault c.folder.ensures c.in-Err.ensures.loads c.in-Err.ensures.fails

@@ -1,1 +1,0 @@
-use Rattle.rm_top.proofs.texts.listed_count.Goals as goal
