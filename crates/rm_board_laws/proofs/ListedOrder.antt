@@ -1,13 +1,13 @@
 -- A listed tie order without a fault is a strict order that agrees with the rank lists.
 use Rattle.std.proofs.Common.{◌≡◌, ◌↔◌, ℕ, zero, suc, ◌+◌, ◌<◌, ◌≤◌, Bool, true, false, not, ◌&&◌, List, [], ◌∷◌, length, get_or, take, eqb, ltb, Option, Some, None, refl, sym, ap, ◌∙◌, subst, subst₂, ⊎_elim, arith, eq-eqb, true≢false}
 use Rattle.std.specs.Prelude.{flat_map, filter_map, find, is_none, position, option_and_then}
-use Rattle.std.specs.List.{enumerate_from, list_any, cons_option}
+use Rattle.std.specs.List.{IsDistinct, enumerate_from, list_any, cons_option}
 use Rattle.std.specs.Option.{option_map_or}
 use Rattle.std.proofs.lemmas.Bool.{cases_order, and_from, not-false, lt-ltb, eqb-false}
 use Rattle.std.proofs.lemmas.List.FromFn.{length-enumerate_from, get_or-enumerate_from}
-use Rattle.rm_sets.specs.Sets.{has, IsIn, IsOnce}
+use Rattle.rm_sets.specs.Sets.{has, IsIn}
 use Rattle.rm_sets.proofs.Members.{place_from_IsIn}
-use Rattle.rm_sets.proofs.Once.{distinct_from_once, once_from_pairs}
+use Rattle.rm_sets.proofs.Once.{distinct_from_pairs}
 use Rattle.rm_base.specs.Checks.{check, first_of, checks_of}
 use Rattle.rm_base.specs.declared.ListedPair.{ListedPair}
 use Rattle.rm_base.proofs.CheckLemmas.{checks-by-place}
@@ -108,8 +108,8 @@ module _ (ranks : List (List ℕ)) (pairs : List ListedPair) (clean : listed_fau
       sym (ap (λ q. is_named_by ranks x q) (take_at pairs no_pair k i lt) ∙ ap (λ o. option_map_or (λ y. eqb y x) o false) (number_at i li)) ∙ off in
       eqb-false (get_or (filter_map F pairs) i 0) x unlike equal
 
-  once_listed : IsOnce (filter_map (contract_of_pair ranks) pairs)
-  once_listed = once_from_pairs (filter_map (contract_of_pair ranks) pairs) apart
+  once_listed : IsDistinct eqb (filter_map (contract_of_pair ranks) pairs)
+  once_listed = distinct_from_pairs (filter_map (contract_of_pair ranks) pairs) apart
 
   contract_below : (p : ListedPair) (x : ℕ) → contract_of_pair ranks p ≡ Some x → x < length (pairs_of ranks)
   contract_below p x e = by p.doctor p.hospital e
@@ -168,7 +168,7 @@ module _ (ranks : List (List ℕ)) (pairs : List ListedPair) (clean : listed_fau
   pub listed_ties : IsTieOrder ranks (listed_order ranks pairs)
   unfolding listed_order
   listed_ties = record {
-    once = distinct_from_once (filter_map (contract_of_pair ranks) pairs) once_listed;
+    once = once_listed;
     all = all_listed;
     agrees = λ x y lt ly e.
         let L = filter_map (contract_of_pair ranks) pairs in

@@ -1,4 +1,5 @@
 -- The tie orders by hospital and by rank are strict orders that agree with the rank lists.
+use Rattle.std.specs.List.{IsDistinct}
 use Rattle.std.proofs.Common.{◌≡◌, ◌⊎◌, ℕ, zero, suc, ◌+◌, ◌-◌, ◌<◌, ◌≤◌, true, cond, List, [], ◌∷◌, ◌++◌, length, get_or, eqb, map, filter, max, refl, sym, ap, ◌∙◌, subst, inl, inr, ⊎_elim, arith, eq-eqb, ne_eqb, eqb-true, true≢false}
 use Rattle.std.specs.Prelude.{flat_map, fold}
 use Rattle.std.proofs.Math.ListN.{get_or-append}
@@ -6,13 +7,13 @@ use Rattle.std.proofs.Math.Seq.{get_or-append_right}
 use Rattle.std.proofs.lemmas.Bool.{cases_lt, cases_eq}
 use Rattle.std.proofs.lemmas.List.{length-append, append-nil}
 use Rattle.std.proofs.lemmas.List.Concat.{flat_map-append}
-use Rattle.rm_sets.specs.Sets.{has, IsIn, IsSet, below, IsOnce}
+use Rattle.rm_sets.specs.Sets.{has, IsIn, IsSet, below}
 use Rattle.rm_sets.proofs.Sets.{IsIn-cases, not_both, IsSet-tail, IsSet-first, IsSet-all_below, IsSet-filter, below-all_below}
 use Rattle.rm_sets.proofs.Members.{not_in_nil, IsIn-all_below, IsIn-filter, IsIn-from_filter, IsIn-append_left, IsIn-append_right, IsIn-append_cases, IsIn-get_or}
 use Rattle.rm_market.specs.Board.{pairs_from, pairs_of, stands_before, IsTieOrder}
 use Rattle.rm_market.specs.Ties.{rank_places, by_hospital, by_rank}
 use Rattle.rm_board_laws.proofs.Contracts.{pair_in}
-use Rattle.rm_sets.proofs.Once.{length-below, get_or-below, distinct_from_once, once_of_set, once_append}
+use Rattle.rm_sets.proofs.Once.{length-below, get_or-below, distinct_of_set, distinct_append, distinct_none, distinct_first, distinct_rest}
 
 -- ---- what stands before what
 
@@ -57,15 +58,15 @@ before_across (z ∷ A) B x y ix iy =
     (λ ne. before_across A B x y (⊎_elim (λ same. absurd (ne (sym same))) (λ later. later) (IsIn-cases x z A ix)) iy)
 
 -- by places, where each stands once
-pub before_at : (L : List ℕ) (i j : ℕ) → IsOnce L → i < j → j < length L → stands_before (get_or L i 0) (get_or L j 0) L ≡ true
+pub before_at : (L : List ℕ) (i j : ℕ) → IsDistinct eqb L → i < j → j < length L → stands_before (get_or L i 0) (get_or L j 0) L ≡ true
 before_at [] i j o lt ll = absurd (omega arith)
 before_at (z ∷ L) zero zero o lt ll = absurd (omega arith)
 before_at (z ∷ L) zero (suc j) o lt ll = before_cons z (get_or L j 0) z L (λ e. IsIn-get_or L j 0 (omega arith)) (λ ne. absurd (ne refl))
 before_at (z ∷ L) (suc i) zero o lt ll = absurd (omega arith)
 before_at (z ∷ L) (suc i) (suc j) o lt ll =
     before_cons (get_or L i 0) (get_or L j 0) z L
-    (λ e. absurd (not_both (has z L) (subst (λ w. IsIn w L) (sym e) (IsIn-get_or L i 0 (omega arith))) o.0))
-    (λ ne. before_at L i j o.1 (omega arith) (omega arith))
+    (λ e. absurd (not_both (has z L) (subst (λ w. IsIn w L) (sym e) (IsIn-get_or L i 0 (omega arith))) (distinct_first z L o)))
+    (λ ne. before_at L i j (distinct_rest z L o) (omega arith) (omega arith))
 
 -- ---- by hospital
 
@@ -74,7 +75,7 @@ hospital_ties ranks =
     let n = length (pairs_of ranks) in
     let s = IsSet-all_below n (λ k. true) in
     record {
-      once = distinct_from_once (below n) (once_of_set (below n) s);
+      once = distinct_of_set (below n) s;
       all = λ x. ((λ i. (below-all_below n (λ k. true) x i).0), (λ lt. IsIn-all_below n (λ k. true) x lt refl));
       agrees = λ x y lt ly e. before_in_set (below n) x y s (IsIn-all_below n (λ k. true) x (omega arith) refl) (IsIn-all_below n (λ k. true) y ly refl) lt;
     }
@@ -185,12 +186,12 @@ module _ (ranks : List (List ℕ)) where
       (λ le. let e : get_or (rank_places ranks) x 0 ≡ m = omega arith in IsIn-append_right (classes m) (class m) x (subst (λ k. IsIn x (class k)) e (in_class x lt)))
       (cases_lt (get_or (rank_places ranks) x 0) m))
 
-  once_classes : (m : ℕ) → IsOnce (classes m)
-  once_classes zero = tt
+  once_classes : (m : ℕ) → IsDistinct eqb (classes m)
+  once_classes zero = distinct_none
   once_classes (suc m) =
-      subst IsOnce (sym (classes_more m))
-      (once_append (classes m) (class m) (once_classes m)
-      (once_of_set (class m) (IsSet-filter (λ y. eqb (get_or (rank_places ranks) y 0) m) (below (length (pairs_of ranks))) (IsSet-all_below (length (pairs_of ranks)) (λ k. true))))
+      subst (IsDistinct eqb) (sym (classes_more m))
+      (distinct_append (classes m) (class m) (once_classes m)
+      (distinct_of_set (class m) (IsSet-filter (λ y. eqb (get_or (rank_places ranks) y 0) m) (below (length (pairs_of ranks))) (IsSet-all_below (length (pairs_of ranks)) (λ k. true))))
       (λ x i j. let a = (from_classes m x i).1 in let e = (from_class m x j).1 in absurd (omega arith)))
 
   before_classes : (m x y : ℕ) → x < length (pairs_of ranks) → y < length (pairs_of ranks) → get_or (rank_places ranks) x 0 < get_or (rank_places ranks) y 0 → get_or (rank_places ranks) y 0 < m → stands_before x y (classes m) ≡ true
@@ -208,7 +209,7 @@ module _ (ranks : List (List ℕ)) where
   unfolding by_rank
   rank_ties =
       let m = fold max 0 (map length ranks) in record {
-        once = distinct_from_once (classes m) (once_classes m);
+        once = once_classes m;
         all = λ x. ((λ i. (from_classes m x i).0), (λ lt. in_classes m x lt (place_bound 0 0 ranks x lt)));
         agrees = λ x y lt ly e. before_classes m x y (omega arith) ly (places_rise 0 ranks x y lt ly e) (place_bound 0 0 ranks y ly);
       }

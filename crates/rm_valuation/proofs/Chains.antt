@@ -1,11 +1,12 @@
 -- The nodes of a contract, as a tree gives them.
+use Rattle.std.specs.List.{IsDistinct}
 use Rattle.std.proofs.Common.{◌≡◌, ◌∙◌, ℕ, ◌+◌, ◌<◌, ◌≤◌, List, [], ◌∷◌, Bool, true, false, cond, ◌&&◌, ◌||◌, length, map, filter, eqb, ltb, refl, sym, ap, arith}
 use Rattle.std.proofs.lemmas.Bool.{or_parts, and_parts, ltb-true, lt-ltb}
 use Rattle.std.proofs.lemmas.List.{length-map}
 use Rattle.std.proofs.lemmas.List.Sums.{length-filter, count_by-le-length}
-use Rattle.rm_sets.specs.Sets.{has, IsIn, IsOnce, below}
+use Rattle.rm_sets.specs.Sets.{has, IsIn, below}
 use Rattle.rm_sets.proofs.Sets.{IsSet-filter, IsSet-all_below}
-use Rattle.rm_sets.proofs.Once.{once_of_set, length-below}
+use Rattle.rm_sets.proofs.Once.{distinct_of_set, length-below, distinct_none, distinct_one, distinct_first, distinct_rest, distinct_more}
 use Rattle.rm_market.specs.Board.{Board, leaf_of, sets_of}
 use Rattle.rm_market.specs.Tree.{put, in_order, chain, set_of, is_inside}
 use Rattle.rm_laminar.proofs.Members.{flip}
@@ -16,20 +17,21 @@ use Rattle.rm_valuation_laws.proofs.Order.{set_is}
 
 -- ---- a list in order has each number once, and as many
 
-once_cond : (b : Bool) (xs ys : List ℕ) → IsOnce xs → IsOnce ys → IsOnce (cond b xs ys)
+once_cond : (b : Bool) (xs ys : List ℕ) → IsDistinct eqb xs → IsDistinct eqb ys → IsDistinct eqb (cond b xs ys)
 once_cond true xs ys p q = p
 once_cond false xs ys p q = q
 
-put_once : (first : ℕ → ℕ → Bool) (x : ℕ) (xs : List ℕ) → IsOnce xs → has x xs ≡ false → IsOnce (put first x xs)
-put_once first x [] once out = (refl, tt)
+put_once : (first : ℕ → ℕ → Bool) (x : ℕ) (xs : List ℕ) → IsDistinct eqb xs → has x xs ≡ false → IsDistinct eqb (put first x xs)
+put_once first x [] once out = distinct_one x
 put_once first x (y ∷ ys) once out =
     let parts = or_parts (eqb x y) (has x ys) out in
     let other : eqb y x ≡ false = flip x y ∙ parts.0 in
-    once_cond (first x y) (x ∷ y ∷ ys) (y ∷ put first x ys) (out, once) ((has-put first x ys y ∙ rw (other, once.0) refl), put_once first x ys once.1 parts.1)
+    once_cond (first x y) (x ∷ y ∷ ys) (y ∷ put first x ys) (distinct_more x (y ∷ ys) out once)
+    (distinct_more y (put first x ys) (has-put first x ys y ∙ rw (other, distinct_first y ys once) refl) (put_once first x ys (distinct_rest y ys once) parts.1))
 
-in_order_once : (first : ℕ → ℕ → Bool) (xs : List ℕ) → IsOnce xs → IsOnce (in_order first xs)
-in_order_once first [] once = tt
-in_order_once first (x ∷ xs) once = put_once first x (in_order first xs) (in_order_once first xs once.1) (has-in_order first xs x ∙ once.0)
+in_order_once : (first : ℕ → ℕ → Bool) (xs : List ℕ) → IsDistinct eqb xs → IsDistinct eqb (in_order first xs)
+in_order_once first [] once = distinct_none
+in_order_once first (x ∷ xs) once = put_once first x (in_order first xs) (in_order_once first xs (distinct_rest x xs once)) (has-in_order first xs x ∙ distinct_first x xs once)
 
 length_cond : (b : Bool) (xs ys : List ℕ) (n : ℕ) → length xs ≡ n → length ys ≡ n → length (cond b xs ys) ≡ n
 length_cond true xs ys n p q = p
@@ -63,11 +65,11 @@ has_chain sets leaf k =
     has-in_order (is_inside sets) (filter (λ j. has leaf (set_of sets j)) (below (length sets))) k
     ∙ has-below (length sets) k (λ j. has leaf (set_of sets j))
 
-chain_once : (sets : List (List ℕ)) (leaf : ℕ) → IsOnce (chain sets leaf)
+chain_once : (sets : List (List ℕ)) (leaf : ℕ) → IsDistinct eqb (chain sets leaf)
 unfolding chain
 chain_once sets leaf =
     let p : ℕ → Bool = λ k. has leaf (set_of sets k) in
-    in_order_once (is_inside sets) (filter p (below (length sets))) (once_of_set (filter p (below (length sets))) (IsSet-filter p (below (length sets)) (IsSet-all_below (length sets) (λ k. true))))
+    in_order_once (is_inside sets) (filter p (below (length sets))) (distinct_of_set (filter p (below (length sets))) (IsSet-filter p (below (length sets)) (IsSet-all_below (length sets) (λ k. true))))
 
 chain_in : (b : Board) (x : ℕ) → IsChain b x (chain (sets_of b) (leaf_of b x))
 chain_in b x =

@@ -1,4 +1,5 @@
 -- Counts by node, and sums of steps along a chain.
+use Rattle.std.specs.List.{IsDistinct}
 use Rattle.std.proofs.Common.{◌≡◌, ◌∙◌, ℕ, suc, ◌+◌, ◌-◌, ◌*◌, ◌<◌, ◌≤◌, List, [], ◌∷◌, Bool, true, false, ◌||◌, length, map, get_or, min, eqb, count_by, Option, Some, None, ℤ, pos, ◌+ℤ◌, ◌-ℤ◌, ◌≤ℤ◌, All, refl, sym, ap, subst, ⊎_elim, arith, rules, add-one, eqb-true}
 use Rattle.std.specs.Prelude.{◌^◌, slice_get}
 use Rattle.std.proofs.lemmas.Int.{ints}
@@ -7,7 +8,8 @@ use Rattle.std.proofs.lemmas.List.{get_or-map, length-map, ext_get_or}
 use Rattle.std.proofs.lemmas.List.Sums.{count_by-le-length}
 use Rattle.std.proofs.lemmas.List.Elements.{All-from_get_or}
 use Rattle.std.proofs.lemmas.Option.{slice_get-get_or, slice_get_within, get_or_from_slice_get}
-use Rattle.rm_sets.specs.Sets.{has, IsIn, IsSet, IsSetBelow, IsOnce, with_one, without}
+use Rattle.rm_sets.specs.Sets.{has, IsIn, IsSet, IsSetBelow, with_one, without}
+use Rattle.rm_sets.proofs.Once.{distinct_first, distinct_rest}
 use Rattle.rm_sets.proofs.Sets.{not_both, IsSet-with_one, IsIn-with_one_cases}
 use Rattle.rm_sets.proofs.Members.{IsIn-get_or, place_from_IsIn}
 use Rattle.rm_sets.proofs.Sizes.{length_below}
@@ -38,13 +40,13 @@ or_count true false f = refl
 or_count false true f = refl
 or_count false false f = refl
 
-count_once : (ks : List ℕ) (k : ℕ) → IsOnce ks → count_by (λ p. eqb p k) ks ≡ one (has k ks)
+count_once : (ks : List ℕ) (k : ℕ) → IsDistinct eqb ks → count_by (λ p. eqb p k) ks ≡ one (has k ks)
 count_once [] k o = refl
 count_once (y ∷ ks) k o =
     let e = count-cons (λ p. eqb p k) y ks in
-    let rest = count_once ks k o.1 in
+    let rest = count_once ks k (distinct_rest y ks o) in
     let f : one (eqb y k) ≡ one (eqb k y) = ap one (flip k y) in
-    let g = or_count (eqb k y) (has k ks) (λ t h. not_both (has y ks) (subst (λ z. IsIn z ks) (eqb-true k y t) h) o.0) in
+    let g = or_count (eqb k y) (has k ks) (λ t h. not_both (has y ks) (subst (λ z. IsIn z ks) (eqb-true k y t) h) (distinct_first y ks o)) in
     omega arith
 
 set_more : (n x : ℕ) (S : List ℕ) → IsSetBelow n S → x < n → IsSetBelow n (with_one S x)

@@ -1,8 +1,10 @@
 -- Sums over nodes, over the numbers below m, and over a list of different node numbers.
+use Rattle.std.specs.List.{IsDistinct}
 use Rattle.std.proofs.Common.{◌≡◌, ℕ, zero, suc, ◌<◌, List, [], ◌∷◌, Bool, true, false, ◌||◌, length, map, get_or, eqb, ℤ, pos, ◌+ℤ◌, refl, sym, ap, ◌∙◌, subst, ⊎_elim, arith, eqb-true, eq-eqb, ne_eqb}
 use Rattle.std.proofs.lemmas.Int.{ints}
 use Rattle.std.proofs.lemmas.Bool.{cases_eq}
-use Rattle.rm_sets.specs.Sets.{has, IsIn, IsOnce}
+use Rattle.rm_sets.specs.Sets.{has, IsIn}
+use Rattle.rm_sets.proofs.Once.{distinct_first, distinct_rest}
 use Rattle.rm_sets.proofs.Sets.{not_both, IsIn-here, IsIn-later}
 use Rattle.rm_market.specs.Board.{int_sum}
 use Rattle.rm_valuation_laws.specs.Changes.{on, sum_upto}
@@ -56,18 +58,18 @@ on_or false true z f = omega (arith, ints)
 on_or false false z f = refl
 
 -- a sum over different numbers below m
-pub sum_of_once : (m : ℕ) (g : ℕ → ℤ) (ks : List ℕ) → IsOnce ks → ((k : ℕ) → IsIn k ks → k < m) → int_sum (map g ks) ≡ sum_upto m (λ k. on (has k ks) (g k))
+pub sum_of_once : (m : ℕ) (g : ℕ → ℤ) (ks : List ℕ) → IsDistinct eqb ks → ((k : ℕ) → IsIn k ks → k < m) → int_sum (map g ks) ≡ sum_upto m (λ k. on (has k ks) (g k))
 sum_of_once m g [] once below = sym (sum_upto_zero m)
 sum_of_once m g (x ∷ ks) once below =
-    let rest = sum_of_once m g ks once.1 (λ k h. below k (IsIn-later k x ks h)) in
+    let rest = sum_of_once m g ks (distinct_rest x ks once) (λ k h. below k (IsIn-later k x ks h)) in
     let one = sum_upto_one m x g (below x (IsIn-here x ks)) in
     let split = sum_upto_same m (λ k. on (has k (x ∷ ks)) (g k)) (λ k. on (eqb k x) (g k) +ℤ on (has k ks) (g k))
-    (λ k lt. on_or (eqb k x) (has k ks) (g k) (λ e h. not_both (has x ks) (subst (λ z. IsIn z ks) (eqb-true k x e) h) once.0)) in
+    (λ k lt. on_or (eqb k x) (has k ks) (g k) (λ e h. not_both (has x ks) (subst (λ z. IsIn z ks) (eqb-true k x e) h) (distinct_first x ks once))) in
     let add = sum_upto_add m (λ k. on (eqb k x) (g k)) (λ k. on (has k ks) (g k)) in
     omega (arith, ints)
 
 -- a sum over a list whose members are those below its length that pass the test
-pub sum_by_members : {X : Type 0} (g : X → ℤ) (d : X) (p : X → Bool) (xs : List X) (ks : List ℕ) → IsOnce ks → ((k : ℕ) → IsIn k ks → k < length xs) → ((k : ℕ) → k < length xs → has k ks ≡ p (get_or xs k d)) →
+pub sum_by_members : {X : Type 0} (g : X → ℤ) (d : X) (p : X → Bool) (xs : List X) (ks : List ℕ) → IsDistinct eqb ks → ((k : ℕ) → IsIn k ks → k < length xs) → ((k : ℕ) → k < length xs → has k ks ≡ p (get_or xs k d)) →
     int_sum (map (λ x. on (p x) (g x)) xs) ≡ int_sum (map (λ k. g (get_or xs k d)) ks)
 sum_by_members g d p xs ks once below same =
     sum_by_place (λ x. on (p x) (g x)) d xs

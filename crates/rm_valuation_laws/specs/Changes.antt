@@ -1,6 +1,7 @@
 -- Boards whose worth is a valuation, and what single changes do to it.
+use Rattle.std.specs.List.{IsDistinct}
 use Rattle.std.specs.Prelude.{List, Bool, false, ◌≡◌, ◌↔◌, ℕ, zero, suc, ◌-◌, ◌<◌, ◌≤◌, ◌<ℤ◌, true, ◌&&◌, ◌||◌, not, ◌==◌, map, length, ℤ, pos, ◌+ℤ◌, IsTrue, IsFalse, slice_index_or, All, AllPairs}
-use Rattle.rm_sets.specs.Sets.{has, IsIn, IsOnce}
+use Rattle.rm_sets.specs.Sets.{has, IsIn}
 use Rattle.rm_market.specs.Board.{Node, Board, node_at, leaf_of, count, int_sum, crosses, IsFalling}
 use Rattle.rm_valuation_laws.specs.Scores.{place}
 
@@ -47,7 +48,7 @@ test_at b k = in_node b (node_at b k)
 -- ---- chains: the different numbers of the nodes that have x
 
 pub record IsChain (b : Board) (x : ℕ) (chain : List ℕ) : Type 0 where
-  pub once : IsOnce chain
+  pub once : IsDistinct ◌==◌ chain
   pub nodes : (k : ℕ) → IsIn k chain → k < length b.nodes
   pub all : (k : ℕ) → k < length b.nodes → has k chain ≡ test_at b k x
 
