@@ -10,7 +10,7 @@ use Rattle.rm_base.specs.declared.Refusal.{Refusal}
 use Rattle.rm_base.proofs.CheckLemmas.{first-none, first-some}
 use Rattle.rm_roster.specs.Roster.{RosterData}
 use Rattle.rm_base.specs.declared.ListedPair.{ListedPair}
-use Rattle.rm_policy.specs.Entries.{list_at, name_in}
+use Rattle.rm_policy.specs.Entries.{elements_at, name_of_entry}
 use Rattle.rm_policy.specs.Groups.{GroupsData, PrefecturesData, groups_of, groups_joined, members_of_group, no_groups, prefectures_of, steps_of_group, with_group}
 use Rattle.rm_base.specs.Reading.{Stops}
 use Rattle.rm_base.specs.declared.ReadFault.{ReadFault}
@@ -46,7 +46,7 @@ pub record AreEven (n : ℕ) (g : GroupsData) : Type 0 where
 
 with_group-even : (r : RosterData) (n : ℕ) (g : GroupsData) (d : Data) → AreEven n g → AreEven (n + 1) (with_group r g d)
 with_group-even r n g d e = record {
-  names = omega (arith, length-append g.names (name_in d ∷ []), e.names);
+  names = omega (arith, length-append g.names (name_of_entry d ∷ []), e.names);
   members = omega (arith, length-append g.members (members_of_group r g d ∷ []), e.members);
   steps = omega (arith, length-append g.steps (steps_of_group d ∷ []), e.steps);
 }
@@ -66,7 +66,7 @@ pub policy-even : (r : RosterData) (ps gs : List Data) (p : PolicyData) → p.gr
 policy-even r ps gs p groups orders few =
     let g = groups_of r gs in
     let even = groups-even r gs in
-    let names : length p.groups.names ≡ length ps + length gs = ap (λ (q : GroupsData). length q.names) groups ∙ length-append (map name_in ps) g.names ∙ rw (length-map ps name_in, even.names) refl in
+    let names : length p.groups.names ≡ length ps + length gs = ap (λ (q : GroupsData). length q.names) groups ∙ length-append (map name_of_entry ps) g.names ∙ rw (length-map ps name_of_entry, even.names) refl in
     let members : length p.groups.members ≡ length ps + length gs = ap (λ (q : GroupsData). length q.members) groups ∙ length-append (map (members_of_prefecture r) ps) g.members ∙ rw (length-map ps (members_of_prefecture r), even.members) refl in
     let steps : length p.groups.steps ≡ length ps + length gs = ap (λ (q : GroupsData). length q.steps) groups ∙ length-append (map (λ e. flat (cap_in e)) ps) g.steps ∙ rw (length-map ps (λ e. flat (cap_in e)), even.steps) refl in
     let order_count : length p.orders ≡ length ps = ap length orders ∙ length-map ps (order_in r) in
@@ -101,6 +101,6 @@ pub orders-told : (r : RosterData) (ps : List Data) (orders : List (Option (List
 orders-told r ps orders prefectures is prefectures_are = is ∙ ap (λ (p : PrefecturesData). p.orders) prefectures_are
 
 pub policy-is : (r : RosterData) (d : Data) (kind : Kind) (ties : Ties) (listed : List ListedPair) (groups : GroupsData) (orders : List (Option (List ℕ))) (steps : List (Option (List ℤ))) → kind ≡ kind_in d → ties ≡ ties_in d
-    → listed ≡ listed_pairs r (list_at pairs key.Listed d) → groups ≡ groups_joined (prefectures_of r (prefecture_entries d)).groups (groups_of r (group_entries d)) → orders ≡ (prefectures_of r (prefecture_entries d)).orders
+    → listed ≡ listed_pairs r (elements_at pairs key.Listed d) → groups ≡ groups_joined (prefectures_of r (prefecture_entries d)).groups (groups_of r (group_entries d)) → orders ≡ (prefectures_of r (prefecture_entries d)).orders
     → steps ≡ hospital_steps_of r (hospital_entries d) → record { kind = kind; ties = ties; listed = listed; groups = groups; orders = orders; hospital_steps = steps } ≡ policy_of r d
 policy-is r d kind ties listed groups orders steps kind_is ties_is listed_is groups_are orders_are steps_are = rw (kind_is, ties_is, listed_is, groups_are, orders_are, steps_are) refl

@@ -13,7 +13,7 @@ use Rattle.rm_base.specs.declared.Refusal.{Refusal}
 use Rattle.rm_base.proofs.CheckLemmas.{AreThrough, through-start, through-more, through-stop, through-end, first-none}
 use Rattle.rm_base.specs.declared.codes.TheConstants.{UNKNOWN_ENTRY_NAME, WRONG_ORDER}
 use Rattle.rm_roster.specs.Roster.{RosterData}
-use Rattle.rm_policy.specs.Entries.{refused, name_checks, number_named, numbers_of}
+use Rattle.rm_policy.specs.Entries.{policy_refusal, name_checks, number_named, numbers_of}
 use Rattle.rm_policy.specs.Prefectures.{fits, is_missing, order_element_checks}
 
 -- ---- places
@@ -93,7 +93,7 @@ all-named each names vs i numbers a h =
 
 -- ---- the checks of one element
 
-pub name-stops : (names : List Text) (item first j : ℕ) (before : List Data) (d : Data) (refusal : Refusal) → number_named names d ≡ None → j ≡ length before → refusal ≡ refused UNKNOWN_ENTRY_NAME item (first + j + 1)
+pub name-stops : (names : List Text) (item first j : ℕ) (before : List Data) (d : Data) (refusal : Refusal) → number_named names d ≡ None → j ≡ length before → refusal ≡ policy_refusal UNKNOWN_ENTRY_NAME item (first + j + 1)
     → first_of (name_checks names item first before d) ≡ Some refusal
 name-stops names item first j before d refusal none at is = rw (none, is, at) refl
 
@@ -101,7 +101,7 @@ pub name-passes : (names : List Text) (item first n : ℕ) (before : List Data) 
 name-passes names item first n before d some = rw some refl
 
 pub order-stops : (r : RosterData) (item p j : ℕ) (named : List ℕ) (number : Option ℕ) (before : List Data) (d : Data) (refusal : Refusal) → fits r p named number ≡ false → named ≡ numbers_of r.hospitals before → number ≡ number_named r.hospitals d
-    → j ≡ length before → refusal ≡ refused WRONG_ORDER item (j + 1) → first_of (order_element_checks r item p before d) ≡ Some refusal
+    → j ≡ length before → refusal ≡ policy_refusal WRONG_ORDER item (j + 1) → first_of (order_element_checks r item p before d) ≡ Some refusal
 order-stops r item p j named number before d refusal bad names found at is = rw (← names, ← found, bad, is, at) refl
 
 pub order-passes : (r : RosterData) (item p : ℕ) (named : List ℕ) (number : Option ℕ) (before : List Data) (d : Data) → fits r p named number ≡ true → named ≡ numbers_of r.hospitals before → number ≡ number_named r.hospitals d

@@ -8,7 +8,7 @@ use Rattle.rm_sets.proofs.Sets.{IsSetBelow-all_below}
 use Rattle.rm_roster.specs.Roster.{RosterData}
 use Rattle.rm_policy.specs.Groups.{GroupsData, groups_of, is_member, members_of_group, no_groups, prefectures_of, with_group}
 use Rattle.rm_policy.specs.Policy.{policy_of}
-use Rattle.rm_policy.specs.Prefectures.{members_of_prefecture, prefecture_in}
+use Rattle.rm_policy.specs.Prefectures.{members_of_prefecture, prefecture_of_entry}
 use Rattle.rm_policy.specs.Top.{group_entries, prefecture_entries}
 
 abbrev IsSetOf : RosterData → List ℕ → Type 0
@@ -17,7 +17,7 @@ IsSetOf r S = IsSetBelow (length r.hospitals) S
 of-prefectures : (r : RosterData) (ds : List Data) → All (IsSetOf r) (map (members_of_prefecture r) ds)
 of-prefectures r [] = All-nil (IsSetOf r)
 of-prefectures r (d ∷ ds) =
-    All-cons (IsSetOf r) (members_of_prefecture r d) (map (members_of_prefecture r) ds) (IsSetBelow-all_below (length r.hospitals) (λ h. slice_index r.prefecture_of h == prefecture_in r d)) (of-prefectures r ds)
+    All-cons (IsSetOf r) (members_of_prefecture r d) (map (members_of_prefecture r) ds) (IsSetBelow-all_below (length r.hospitals) (λ h. slice_index r.prefecture_of h == prefecture_of_entry r d)) (of-prefectures r ds)
 
 of-groups : (r : RosterData) (g : GroupsData) (ds : List Data) → All (IsSetOf r) g.members → All (IsSetOf r) (fold (with_group r) g ds).members
 of-groups r g [] all = all

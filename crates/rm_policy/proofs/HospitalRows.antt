@@ -15,8 +15,8 @@ use Rattle.rm_base.specs.Names.{place_of}
 use Rattle.rm_base.specs.declared.Refusal.{Refusal}
 use Rattle.rm_base.proofs.FirstPlaces.{position_push, kept}
 use Rattle.rm_roster.specs.Roster.{RosterData}
-use Rattle.rm_policy.specs.Entries.{name_in}
-use Rattle.rm_policy.specs.Hospitals.{entry_of, found_checks, hospital_checks, hospital_checks_after, hospital_shape_checks, hospital_steps_of, hospitals_with_entries, steps_in, steps_of_hospital}
+use Rattle.rm_policy.specs.Entries.{name_of_entry}
+use Rattle.rm_policy.specs.Hospitals.{entry_of_hospital, found_hospital_checks, hospital_entry_checks, hospital_entry_checks_after, hospital_shape_checks, hospital_steps_of, hospitals_with_entries, steps_in, steps_of_hospital}
 use Rattle.rm_policy.specs.HospitalAnswers.{steps_at}
 use Rattle.rm_policy.proofs.ElementLemmas.{AreSeen, seen-none, seen-more, seen-stop, seen-all, place_lt}
 
@@ -27,10 +27,10 @@ item_of first place = option_map (λ k. first + (k + 1)) place
 -- The entries before place k were read: they pass their checks, and say this.
 pub record AreHospitals (r : RosterData) (first : ℕ) (vs : List Value) (k : ℕ) (items : List (Option ℕ)) (steps : List (List ℤ)) : Type 0 where
   pub before : List Data
-  pub seen : AreSeen (hospital_checks_after r first) vs k before
+  pub seen : AreSeen (hospital_entry_checks_after r first) vs k before
   pub known : length (hospitals_with_entries r before) ≡ length before
   pub size : length items ≡ length r.hospitals
-  pub items_are : (h : ℕ) → h < length r.hospitals → get_or items h None ≡ item_of first (entry_of r before h)
+  pub items_are : (h : ℕ) → h < length r.hospitals → get_or items h None ≡ item_of first (entry_of_hospital r before h)
   pub steps_are : steps ≡ map steps_in before
   pub place : k ≡ length before
 
@@ -38,7 +38,7 @@ pub hospitals-none : (r : RosterData) (first : ℕ) (vs : List Value) (items : L
 hospitals-none r first vs items n are count =
     record {
       before = [];
-      seen = seen-none (hospital_checks_after r first) vs;
+      seen = seen-none (hospital_entry_checks_after r first) vs;
       known = refl;
       size = rw are (length-replicate n None ∙ count);
       items_are = λ h lt. rw are (get_or-replicate n h None None (omega (arith, lt, count)));
@@ -47,34 +47,34 @@ hospitals-none r first vs items n are count =
     }
 
 -- the checks ask for the item of a hospital that is there
-found-at : (r : RosterData) (f g : ℕ → Option ℕ) (i j : ℕ) (d : Data) (o : Option ℕ) → i ≡ j → ((h : ℕ) → o ≡ Some h → f h ≡ g h) → first_of (hospital_shape_checks i d ++ found_checks r f i d o) ≡ first_of (hospital_shape_checks j d ++ found_checks r g j d o)
+found-at : (r : RosterData) (f g : ℕ → Option ℕ) (i j : ℕ) (d : Data) (o : Option ℕ) → i ≡ j → ((h : ℕ) → o ≡ Some h → f h ≡ g h) → first_of (hospital_shape_checks i d ++ found_hospital_checks r f i d o) ≡ first_of (hospital_shape_checks j d ++ found_hospital_checks r g j d o)
 found-at r f g i j d None e same = rw e refl
 found-at r f g i j d (Some h) e same = rw (e, same h refl) refl
 
 pub hospital-at : (r : RosterData) (first : ℕ) (vs : List Value) (k : ℕ) (items : List (Option ℕ)) (steps : List (List ℤ)) (d : Data) (a : AreHospitals r first vs k items steps)
-    → first_of (hospital_checks r (λ h. get_or items h None) (first + (k + 1)) d) ≡ first_of (hospital_checks_after r first a.before d)
+    → first_of (hospital_entry_checks r (λ h. get_or items h None) (first + (k + 1)) d) ≡ first_of (hospital_entry_checks_after r first a.before d)
 hospital-at r first vs k items steps d a =
-    found-at r (λ h. get_or items h None) (λ h. item_of first (entry_of r a.before h)) (first + (k + 1)) (first + (length a.before + 1)) d (place_of r.hospitals (name_in d)) (omega (arith, a.place))
-    (λ h e. a.items_are h (place_lt (bytes_eq (name_in d)) r.hospitals h e))
+    found-at r (λ h. get_or items h None) (λ h. item_of first (entry_of_hospital r a.before h)) (first + (k + 1)) (first + (length a.before + 1)) d (place_of r.hospitals (name_of_entry d)) (omega (arith, a.place))
+    (λ h e. a.items_are h (place_lt (bytes_eq (name_of_entry d)) r.hospitals h e))
 
 pub hospitals-stop : (r : RosterData) (first : ℕ) (vs : List Value) (k : ℕ) (v : Value) (items : List (Option ℕ)) (steps : List (List ℤ)) (refusal : Refusal) → AreHospitals r first vs k items steps → k < length vs → v ≡ get_or vs k v
-    → first_of (hospital_checks r (λ h. get_or items h None) (first + (k + 1)) (view v)) ≡ Some refusal → first_of (checks_of (hospital_checks_after r first) (map view vs)) ≡ Some refusal
-hospitals-stop r first vs k v items steps refusal a lt at some = seen-stop (hospital_checks_after r first) vs k v a.before refusal a.seen lt at (sym (hospital-at r first vs k items steps (view v) a) ∙ some)
+    → first_of (hospital_entry_checks r (λ h. get_or items h None) (first + (k + 1)) (view v)) ≡ Some refusal → first_of (checks_of (hospital_entry_checks_after r first) (map view vs)) ≡ Some refusal
+hospitals-stop r first vs k v items steps refusal a lt at some = seen-stop (hospital_entry_checks_after r first) vs k v a.before refusal a.seen lt at (sym (hospital-at r first vs k items steps (view v) a) ∙ some)
 
-keys-more : (r : RosterData) (before : List Data) (d : Data) (c : ℕ) → place_of r.hospitals (name_in d) ≡ Some c → hospitals_with_entries r (before ++ d ∷ []) ≡ hospitals_with_entries r before ++ c ∷ []
-keys-more r before d c e = filter_map-append (λ x. place_of r.hospitals (name_in x)) before (d ∷ []) ∙ rw e refl
+keys-more : (r : RosterData) (before : List Data) (d : Data) (c : ℕ) → place_of r.hospitals (name_of_entry d) ≡ Some c → hospitals_with_entries r (before ++ d ∷ []) ≡ hospitals_with_entries r before ++ c ∷ []
+keys-more r before d c e = filter_map-append (λ x. place_of r.hospitals (name_of_entry x)) before (d ∷ []) ∙ rw e refl
 
 no-item : (first : ℕ) (o : Option ℕ) → item_of first o ≡ None → o ≡ None
 no-item first None e = refl
 no-item first (Some k) e = absurd (cc)
 
 pub hospitals-more : (r : RosterData) (first : ℕ) (vs : List Value) (k : ℕ) (v : Value) (items new : List (Option ℕ)) (steps new_steps : List (List ℤ)) (c : ℕ) (s : List ℤ) → AreHospitals r first vs k items steps → k < length vs → v ≡ get_or vs k v
-    → first_of (hospital_checks r (λ h. get_or items h None) (first + (k + 1)) (view v)) ≡ None → place_of r.hospitals (name_in (view v)) ≡ Some c → get_or items c None ≡ None → s ≡ steps_in (view v)
+    → first_of (hospital_entry_checks r (λ h. get_or items h None) (first + (k + 1)) (view v)) ≡ None → place_of r.hospitals (name_of_entry (view v)) ≡ Some c → get_or items c None ≡ None → s ≡ steps_in (view v)
     → new ≡ set items c (Some (first + (k + 1))) → new_steps ≡ steps ++ s ∷ [] → AreHospitals r first vs (k + 1) new new_steps
 hospitals-more r first vs k v items new steps new_steps c s a lt at passes found unmarked steps_is is more =
     let keys = hospitals_with_entries r a.before in
     let keys_are = keys-more r a.before (view v) c found in
-    let here : c < length r.hospitals = place_lt (bytes_eq (name_in (view v))) r.hospitals c found in
+    let here : c < length r.hospitals = place_lt (bytes_eq (name_of_entry (view v))) r.hospitals c found in
     let in_items : c < length items = omega (arith, here, a.size) in
     let absent = no-item first (position (λ x. x == c) keys) (sym (a.items_are c here) ∙ unmarked) in
     let item : first + (k + 1) ≡ first + (length keys + 1) = omega (arith, a.place, a.known) in
@@ -85,7 +85,7 @@ hospitals-more r first vs k v items new steps new_steps c s a lt at passes found
     ]) in
     record {
       before = a.before ++ view v ∷ [];
-      seen = seen-more (hospital_checks_after r first) vs k v a.before a.seen lt at (sym (hospital-at r first vs k items steps (view v) a) ∙ passes);
+      seen = seen-more (hospital_entry_checks_after r first) vs k v a.before a.seen lt at (sym (hospital-at r first vs k items steps (view v) a) ∙ passes);
       known = rw keys_are (omega (arith, length-append keys (c ∷ []), length-append a.before (view v ∷ []), a.known));
       size = rw is (length-set items c (Some (first + (k + 1))) ∙ a.size);
       items_are = rw (is, keys_are) each;
@@ -117,9 +117,9 @@ steps-found steps first (Some k) within =
     rw place (slice_get-get_or steps k [] (within k refl))
 
 pub hospitals-all : (r : RosterData) (first : ℕ) (vs : List Value) (k : ℕ) (items : List (Option ℕ)) (steps : List (List ℤ)) → AreHospitals r first vs k items steps → length vs ≤ k
-    → (first_of (checks_of (hospital_checks_after r first) (map view vs)) ≡ None) × (map (steps_at steps first) items ≡ hospital_steps_of r (map view vs))
+    → (first_of (checks_of (hospital_entry_checks_after r first) (map view vs)) ≡ None) × (map (steps_at steps first) items ≡ hospital_steps_of r (map view vs))
 hospitals-all r first vs k items steps a h =
-    let done = seen-all (hospital_checks_after r first) vs k a.before a.seen h in
+    let done = seen-all (hospital_entry_checks_after r first) vs k a.before a.seen h in
     let n = length r.hospitals in
     let keys = hospitals_with_entries r a.before in
     let size : length (map (steps_at steps first) items) ≡ n = length-map items (steps_at steps first) ∙ a.size in
@@ -129,8 +129,8 @@ hospitals-all r first vs k items steps a h =
     let left : get_or (map (steps_at steps first) items) x None ≡ steps_at steps first (get_or items x None) = get_or-map (steps_at steps first) items x None None (omega (arith, lt, a.size)) in
     let right : get_or (map (steps_of_hospital r a.before) (all_below n (λ y. true))) x None ≡ steps_of_hospital r a.before x =
     get_or-map (steps_of_hospital r a.before) (all_below n (λ y. true)) x 0 None (omega (arith, lt, below-length n)) ∙ ap (steps_of_hospital r a.before) (below-get n x lt) in
-    let found = steps-found steps first (entry_of r a.before x) (λ q e. omega (arith, place_lt (λ y. y == x) keys q e, a.known, ap length a.steps_are, length-map a.before steps_in)) in
-    left ∙ ap (steps_at steps first) (a.items_are x lt) ∙ found ∙ ap (λ (s : List (List ℤ)). option_map (λ q. get_or s q []) (entry_of r a.before x)) a.steps_are ∙ sym right
+    let found = steps-found steps first (entry_of_hospital r a.before x) (λ q e. omega (arith, place_lt (λ y. y == x) keys q e, a.known, ap length a.steps_are, length-map a.before steps_in)) in
+    left ∙ ap (steps_at steps first) (a.items_are x lt) ∙ found ∙ ap (λ (s : List (List ℤ)). option_map (λ q. get_or s q []) (entry_of_hospital r a.before x)) a.steps_are ∙ sym right
     in (
       done.0,
       ext_get_or None (map (steps_at steps first) items) (map (steps_of_hospital r a.before) (all_below n (λ y. true))) (size ∙ sym other_size) (λ x lt. each x (omega (arith, lt, size)))

@@ -11,7 +11,7 @@ use Rattle.rm_base.specs.Text.{Text}
 use Rattle.rm_base.specs.declared.ReadFault.{ReadFault}
 use Rattle.rm_base.specs.declared.Refusal.{Refusal}
 use Rattle.rm_policy.specs.Values.{elements_of, ties, pairs}
-use Rattle.rm_policy.specs.Entries.{value_at, is_present, is_bad, read_at, list_at}
+use Rattle.rm_policy.specs.Entries.{value_at, is_present, is_bad, read_at, elements_at}
 use Rattle.rm_policy.specs.Top.{top_checks, kind_in, ties_in, prefecture_entries, group_entries, hospital_entries}
 use Rattle.rm_policy.specs.declared.Ties.{Ties}
 use Rattle.rm_policy.specs.declared.entries.Found.{Found}
@@ -64,7 +64,7 @@ ReadsTop d (Ok top) =
     (first_of (top_checks d) ≡ None)
     × (top.kind ≡ kind_in d)
     × (top.ties ≡ ties_in d)
-    × (map view top.listed.now ≡ list_at pairs key.Listed d)
+    × (map view top.listed.now ≡ elements_at pairs key.Listed d)
     × (map view top.prefectures.now ≡ prefecture_entries d)
     × (map view top.groups.now ≡ group_entries d)
     × (map view top.hospitals.now ≡ hospital_entries d)

@@ -15,11 +15,11 @@ use Rattle.rm_policy.specs.declared.keys.Key.{Key}
 use Rattle.rm_policy.specs.declared.keys.Key.TheVariants as key
 
 -- a refusal of the policy by its code, its item and a number
-abbrev pub refused : ℕ → ℕ → ℕ → Refusal
-refused code i b = refuse code POLICY_FILE i b
+abbrev pub policy_refusal : ℕ → ℕ → ℕ → Refusal
+policy_refusal code i b = refuse code POLICY_FILE i b
 
 abbrev pub bad_value : ℕ → Key → Refusal
-bad_value i k = refused BAD_VALUE i (key_number k)
+bad_value i k = policy_refusal BAD_VALUE i (key_number k)
 
 -- ---- values at keys
 
@@ -44,20 +44,20 @@ abbrev pub required : {A : Type 0} → (Data → Option A) → Key → ℕ → D
 required read k i d = check (is_none (read_at read k d)) (bad_value i k)
 
 -- the elements at a key, none where it is absent
-abbrev pub list_at : (Data → Option (List Data)) → Key → Data → List Data
-list_at read k d = unwrap_or (read_at read k d) []
+abbrev pub elements_at : (Data → Option (List Data)) → Key → Data → List Data
+elements_at read k d = unwrap_or (read_at read k d) []
 
 -- a text is one of these keys
 abbrev pub is_key_among : List Key → Text → Bool
 is_key_among known text = list_any (λ k. bytes_eq text (key_text k)) known
 
 abbrev pub only_keys : List Key → ℕ → Data → Option Refusal
-only_keys known i d = check (not (list_all (is_key_among known) (keys_of d))) (refused UNKNOWN_KEY i 0)
+only_keys known i d = check (not (list_all (is_key_among known) (keys_of d))) (policy_refusal UNKNOWN_KEY i 0)
 
 -- ---- the name of an entry
 
-abbrev pub name_in : Data → Text
-name_in e = unwrap_or (read_at as_str key.Name e) []
+abbrev pub name_of_entry : Data → Text
+name_of_entry e = unwrap_or (read_at as_str key.Name e) []
 
 -- ---- arrays of names
 
@@ -70,4 +70,4 @@ numbers_of names ds = filter_map (number_named names) ds
 
 -- an element must hold a known name; so many elements of the entry stand before its array
 abbrev pub name_checks : List Text → ℕ → ℕ → List Data → Data → List (Option Refusal)
-name_checks names i first before d = check (is_none (number_named names d)) (refused UNKNOWN_ENTRY_NAME i (first + length before + 1)) ∷ []
+name_checks names i first before d = check (is_none (number_named names d)) (policy_refusal UNKNOWN_ENTRY_NAME i (first + length before + 1)) ∷ []

@@ -12,9 +12,9 @@ use Rattle.rm_base.specs.declared.Refusal.{Refusal}
 use Rattle.rm_market.specs.Steps.{steps_of}
 use Rattle.rm_market.specs.declared.Run.{Run}
 use Rattle.rm_roster.specs.Roster.{RosterData}
-use Rattle.rm_policy.specs.Entries.{name_in, numbers_of}
-use Rattle.rm_policy.specs.Groups.{element_checks, group_array_checks, group_checks, group_head_checks, group_limit_checks, group_shape_checks, groups_named, hospitals_named, prefectures_named, steps_of_group}
-use Rattle.rm_policy.specs.Hospitals.{hospital_checks, hospital_shape_checks, steps_in}
+use Rattle.rm_policy.specs.Entries.{name_of_entry, numbers_of}
+use Rattle.rm_policy.specs.Groups.{group_element_checks, group_array_checks, group_entry_checks, group_head_checks, group_limit_checks, group_shape_checks, groups_named, hospitals_named, prefectures_named, steps_of_group}
+use Rattle.rm_policy.specs.Hospitals.{hospital_entry_checks, hospital_shape_checks, steps_in}
 use Rattle.rm_policy.specs.Steps.{flat, runs_in, runs_of}
 use Rattle.rm_policy.specs.declared.groups.Elements.{Elements}
 use Rattle.rm_policy.specs.declared.groups.GroupArrays.{GroupArrays}
@@ -46,7 +46,7 @@ ReadsLimit i d (Err refusal) = first_of (group_limit_checks i d) ≡ Some refusa
 -- ---- groups
 
 abbrev pub ReadsGroupName : ℕ → Data → Result (Bor Text) Refusal → Type 0
-ReadsGroupName i d (Ok name) = (first_of (group_head_checks i d) ≡ None) × (name.now ≡ name_in d)
+ReadsGroupName i d (Ok name) = (first_of (group_head_checks i d) ≡ None) × (name.now ≡ name_of_entry d)
 ReadsGroupName i d (Err refusal) = first_of (group_head_checks i d) ≡ Some refusal
 
 abbrev pub ReadsArrays : ℕ → Data → Result GroupArrays Refusal → Type 0
@@ -60,7 +60,7 @@ ReadsArrays i d (Err refusal) = first_of (group_array_checks i d) ≡ Some refus
 abbrev pub ReadsGroupShape : ℕ → Data → Result GroupShape Refusal → Type 0
 ReadsGroupShape i d (Ok s) =
     (first_of (group_shape_checks i d) ≡ None)
-    × (s.name.now ≡ name_in d)
+    × (s.name.now ≡ name_of_entry d)
     × (runs_of_limit s.limit ≡ runs_in d)
     × (steps_of_limit s.limit ≡ steps_of_group d)
     × IsFit s.limit
@@ -69,34 +69,34 @@ ReadsGroupShape i d (Ok s) =
     × (map view s.arrays.groups.now ≡ groups_named d)
 ReadsGroupShape i d (Err refusal) = first_of (group_shape_checks i d) ≡ Some refusal
 
-abbrev pub ReadsElements : RosterData → List Text → ℕ → List Data → List Data → List Data → Result Elements ReadFault → Type 0
-ReadsElements r names i hospitals prefectures groups (Ok e) =
-    (first_of (element_checks r names i hospitals prefectures groups) ≡ None)
+abbrev pub ReadsGroupElements : RosterData → List Text → ℕ → List Data → List Data → List Data → Result Elements ReadFault → Type 0
+ReadsGroupElements r names i hospitals prefectures groups (Ok e) =
+    (first_of (group_element_checks r names i hospitals prefectures groups) ≡ None)
     × (e.hospitals.items ≡ numbers_of r.hospitals hospitals)
     × (e.prefectures.items ≡ numbers_of r.prefectures prefectures)
     × (e.groups.items ≡ numbers_of names groups)
-ReadsElements r names i hospitals prefectures groups (Err fault) = Stops (first_of (element_checks r names i hospitals prefectures groups)) fault
+ReadsGroupElements r names i hospitals prefectures groups (Err fault) = Stops (first_of (group_element_checks r names i hospitals prefectures groups)) fault
 
 abbrev pub ReadsGroup : RosterData → ℕ → List Text → Data → Result GroupEntry ReadFault → Type 0
 ReadsGroup r first names d (Ok e) =
-    (first_of (group_checks r first names d) ≡ None)
-    × (e.name.now ≡ name_in d)
+    (first_of (group_entry_checks r first names d) ≡ None)
+    × (e.name.now ≡ name_of_entry d)
     × (e.elements.hospitals.items ≡ numbers_of r.hospitals (hospitals_named d))
     × (e.elements.prefectures.items ≡ numbers_of r.prefectures (prefectures_named d))
     × (e.elements.groups.items ≡ numbers_of names (groups_named d))
     × (e.steps ≡ steps_of_group d)
-ReadsGroup r first names d (Err fault) = Stops (first_of (group_checks r first names d)) fault
+ReadsGroup r first names d (Err fault) = Stops (first_of (group_entry_checks r first names d)) fault
 
 -- ---- hospitals
 
 abbrev pub ReadsHospitalShape : ℕ → Data → Result HospitalShape Refusal → Type 0
-ReadsHospitalShape i d (Ok s) = (first_of (hospital_shape_checks i d) ≡ None) × (s.name.now ≡ name_in d) × (runs_of (map view s.runs.now) ≡ runs_in d)
+ReadsHospitalShape i d (Ok s) = (first_of (hospital_shape_checks i d) ≡ None) × (s.name.now ≡ name_of_entry d) × (runs_of (map view s.runs.now) ≡ runs_in d)
 ReadsHospitalShape i d (Err refusal) = first_of (hospital_shape_checks i d) ≡ Some refusal
 
-abbrev pub ReadsHospital : RosterData → (ℕ → Option ℕ) → ℕ → Data → Result HospitalEntry ReadFault → Type 0
-ReadsHospital r former i d (Ok e) =
-    (first_of (hospital_checks r former i d) ≡ None)
-    × (place_of r.hospitals (name_in d) ≡ Some e.hospital)
+abbrev pub ReadsHospitalEntry : RosterData → (ℕ → Option ℕ) → ℕ → Data → Result HospitalEntry ReadFault → Type 0
+ReadsHospitalEntry r former i d (Ok e) =
+    (first_of (hospital_entry_checks r former i d) ≡ None)
+    × (place_of r.hospitals (name_of_entry d) ≡ Some e.hospital)
     × (former e.hospital ≡ None)
     × (e.steps ≡ steps_in d)
-ReadsHospital r former i d (Err fault) = Stops (first_of (hospital_checks r former i d)) fault
+ReadsHospitalEntry r former i d (Err fault) = Stops (first_of (hospital_entry_checks r former i d)) fault

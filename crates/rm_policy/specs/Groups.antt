@@ -12,7 +12,7 @@ use Rattle.rm_base.specs.declared.codes.TheConstants.{REPEATED_ENTRY, TOO_MANY_I
 use Rattle.rm_market.specs.Steps.{steps_of}
 use Rattle.rm_roster.specs.Roster.{RosterData}
 use Rattle.rm_policy.specs.Values.{cap, runs, texts}
-use Rattle.rm_policy.specs.Entries.{refused, bad_value, is_present, is_bad, read_at, optional, list_at, only_keys, name_in, numbers_of, name_checks}
+use Rattle.rm_policy.specs.Entries.{policy_refusal, bad_value, is_present, is_bad, read_at, optional, elements_at, only_keys, name_of_entry, numbers_of, name_checks}
 use Rattle.rm_policy.specs.Steps.{cap_in, flat, runs_in, step_checks}
 use Rattle.rm_policy.specs.Prefectures.{hospitals_in, members_of_prefecture, order_in}
 use Rattle.rm_policy.specs.declared.keys.Key.{Key}
@@ -31,7 +31,7 @@ steps_check i e = check (is_bad runs key.Steps e || (is_present key.Cap e && is_
 -- the limit on entries, the keys and the name of item i
 abbrev pub group_head_checks : ℕ → Data → List (Option Refusal)
 group_head_checks i e =
-    check (nat_lt MOST_GROUPS i) (refused TOO_MANY_ITEMS i GROUPS_LIMIT)
+    check (nat_lt MOST_GROUPS i) (policy_refusal TOO_MANY_ITEMS i GROUPS_LIMIT)
     ∷ only_keys group_keys i e
     ∷ check (not (option_map_or is_name (read_at as_str key.Name e) false)) (bad_value i key.Name)
     ∷ []
@@ -47,36 +47,36 @@ group_shape_checks i e = group_head_checks i e ++ group_limit_checks i e ++ grou
 
 -- what an entry names
 abbrev pub hospitals_named : Data → List Data
-hospitals_named e = list_at texts key.Hospitals e
+hospitals_named e = elements_at texts key.Hospitals e
 
 abbrev pub prefectures_named : Data → List Data
-prefectures_named e = list_at texts key.Prefectures e
+prefectures_named e = elements_at texts key.Prefectures e
 
 abbrev pub groups_named : Data → List Data
-groups_named e = list_at texts key.Groups e
+groups_named e = elements_at texts key.Groups e
 
 -- each of them is known, the groups among those before; the elements count on through the three arrays
-abbrev pub element_checks : RosterData → List Text → ℕ → List Data → List Data → List Data → List (Option Refusal)
-element_checks r names i hospitals prefectures groups =
+abbrev pub group_element_checks : RosterData → List Text → ℕ → List Data → List Data → List Data → List (Option Refusal)
+group_element_checks r names i hospitals prefectures groups =
     checks_of (name_checks r.hospitals i 0) hospitals
     ++ checks_of (name_checks r.prefectures i (length hospitals)) prefectures
     ++ checks_of (name_checks names i (length hospitals + length prefectures)) groups
 
 -- its name is that of no group before it
 abbrev pub group_name_checks : ℕ → List Text → ℕ → Text → List (Option Refusal)
-group_name_checks first names i name = option_map (λ f. refused REPEATED_ENTRY i (first + f + 1)) (place_of names name) ∷ []
+group_name_checks first names i name = option_map (λ f. policy_refusal REPEATED_ENTRY i (first + f + 1)) (place_of names name) ∷ []
 
 -- the checks of an entry, where so many items and the groups of these names stand before it
-abbrev pub group_checks : RosterData → ℕ → List Text → Data → List (Option Refusal)
-group_checks r first names e =
+abbrev pub group_entry_checks : RosterData → ℕ → List Text → Data → List (Option Refusal)
+group_entry_checks r first names e =
     let i = first + length names + 1 in
     group_shape_checks i e
-    ++ group_name_checks first names i (name_in e)
-    ++ element_checks r names i (hospitals_named e) (prefectures_named e) (groups_named e)
+    ++ group_name_checks first names i (name_of_entry e)
+    ++ group_element_checks r names i (hospitals_named e) (prefectures_named e) (groups_named e)
     ++ step_checks i (runs_in e)
 
 abbrev pub group_checks_after : RosterData → ℕ → List Data → Data → List (Option Refusal)
-group_checks_after r first before e = group_checks r first (map name_in before) e
+group_checks_after r first before e = group_entry_checks r first (map name_of_entry before) e
 
 -- ---- what an entry says
 
@@ -119,7 +119,7 @@ abbrev pub steps_of_group : Data → List ℤ
 steps_of_group e = if is_present key.Cap e then flat (cap_in e) else steps_of (runs_in e)
 
 abbrev pub with_group : RosterData → GroupsData → Data → GroupsData
-with_group r g e = with_entry g (name_in e) (members_of_group r g e) (steps_of_group e)
+with_group r g e = with_entry g (name_of_entry e) (members_of_group r g e) (steps_of_group e)
 
 -- the groups of entries, each over those before it
 abbrev pub groups_of : RosterData → List Data → GroupsData
@@ -134,11 +134,11 @@ abbrev pub no_prefectures : PrefecturesData
 no_prefectures = record { groups = no_groups; orders = [] }
 
 abbrev pub with_prefecture : RosterData → PrefecturesData → Data → PrefecturesData
-with_prefecture r p e = record { groups = with_entry p.groups (name_in e) (members_of_prefecture r e) (flat (cap_in e)); orders = p.orders ++ order_in r e ∷ [] }
+with_prefecture r p e = record { groups = with_entry p.groups (name_of_entry e) (members_of_prefecture r e) (flat (cap_in e)); orders = p.orders ++ order_in r e ∷ [] }
 
 abbrev pub prefectures_of : RosterData → List Data → PrefecturesData
 prefectures_of r entries =
     record {
-      groups = record { names = map name_in entries; members = map (members_of_prefecture r) entries; steps = map (λ e. flat (cap_in e)) entries };
+      groups = record { names = map name_of_entry entries; members = map (members_of_prefecture r) entries; steps = map (λ e. flat (cap_in e)) entries };
       orders = map (order_in r) entries;
     }

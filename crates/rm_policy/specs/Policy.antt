@@ -14,11 +14,11 @@ use Rattle.rm_base.specs.declared.Refusal.{Refusal}
 use Rattle.rm_base.specs.declared.codes.TheConstants.{MOST_GROUPS, NOT_TOML}
 use Rattle.rm_roster.specs.Roster.{RosterData}
 use Rattle.rm_policy.specs.Values.{pair, pairs}
-use Rattle.rm_policy.specs.Entries.{refused, list_at}
+use Rattle.rm_policy.specs.Entries.{policy_refusal, elements_at}
 use Rattle.rm_policy.specs.Top.{top_checks, kind_in, ties_in, prefecture_entries, group_entries, hospital_entries}
 use Rattle.rm_policy.specs.Prefectures.{prefecture_checks_after}
 use Rattle.rm_policy.specs.Groups.{GroupsData, group_checks_after, groups_of, groups_joined, no_groups, prefectures_of}
-use Rattle.rm_policy.specs.Hospitals.{hospital_checks_after, hospital_steps_of}
+use Rattle.rm_policy.specs.Hospitals.{hospital_entry_checks_after, hospital_steps_of}
 use Rattle.rm_policy.specs.declared.Kind.{Kind}
 use Rattle.rm_policy.specs.declared.Kind.TheVariants as kinds
 use Rattle.rm_policy.specs.declared.Ties.{Ties}
@@ -31,11 +31,11 @@ abbrev pub entry_checks : RosterData → Kind → List Data → List Data → Li
 entry_checks r kind prefectures groups hospitals =
     checks_of (prefecture_checks_after r kind) prefectures
     ++ checks_of (group_checks_after r (length prefectures)) groups
-    ++ checks_of (hospital_checks_after r (length prefectures + length groups)) hospitals
+    ++ checks_of (hospital_entry_checks_after r (length prefectures + length groups)) hospitals
 
 -- the checks of a document: those of its top, and then those of its entries
 abbrev pub policy_checks : RosterData → Option Data → List (Option Refusal)
-policy_checks r None = Some (refused NOT_TOML 0 0) ∷ []
+policy_checks r None = Some (policy_refusal NOT_TOML 0 0) ∷ []
 policy_checks r (Some d) = top_checks d ++ entry_checks r (kind_in d) (prefecture_entries d) (group_entries d) (hospital_entries d)
 
 -- What a policy says. The groups are the prefecture entries and then the group entries; the orders are those of the
@@ -71,7 +71,7 @@ policy_of r d =
     record {
       kind = kind_in d;
       ties = ties_in d;
-      listed = listed_pairs r (list_at pairs key.Listed d);
+      listed = listed_pairs r (elements_at pairs key.Listed d);
       groups = groups_joined (prefectures_of r (prefecture_entries d)).groups (groups_of r (group_entries d));
       orders = (prefectures_of r (prefecture_entries d)).orders;
       hospital_steps = hospital_steps_of r (hospital_entries d);
@@ -80,7 +80,7 @@ policy_of r d =
 -- the document of a text, or why there is none
 abbrev pub ReadsDocument : Option Data → Result Value ReadFault → Type 0
 ReadsDocument document (Ok value) = document ≡ Some (view value)
-ReadsDocument document (Err (fault.Refused refusal)) = (document ≡ None) × (refusal ≡ refused NOT_TOML 0 0)
+ReadsDocument document (Err (fault.Refused refusal)) = (document ≡ None) × (refusal ≡ policy_refusal NOT_TOML 0 0)
 ReadsDocument document (Err fault.NoMemory) = Unit {0}
 
 -- what reading entries answers

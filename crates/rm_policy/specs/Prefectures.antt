@@ -11,7 +11,7 @@ use Rattle.rm_base.specs.declared.Refusal.{Refusal}
 use Rattle.rm_base.specs.declared.codes.TheConstants.{UNKNOWN_ENTRY_NAME, REPEATED_ENTRY, WRONG_ORDER, TARGETS_ABOVE_CAP, TOO_MANY_ITEMS, MOST_GROUPS, GROUPS_LIMIT}
 use Rattle.rm_roster.specs.Roster.{RosterData}
 use Rattle.rm_policy.specs.Values.{cap, texts}
-use Rattle.rm_policy.specs.Entries.{refused, read_at, required, optional, only_keys, name_in, number_named, numbers_of}
+use Rattle.rm_policy.specs.Entries.{policy_refusal, read_at, required, optional, only_keys, name_of_entry, number_named, numbers_of}
 use Rattle.rm_policy.specs.Steps.{cap_in}
 use Rattle.rm_policy.specs.Top.{is_flexible}
 use Rattle.rm_policy.specs.declared.Kind.{Kind}
@@ -34,7 +34,7 @@ fits r p named number = option_map_or (λ h. (slice_index r.prefecture_of h == p
 
 abbrev pub order_element_checks : RosterData → ℕ → ℕ → List Data → Data → List (Option Refusal)
 order_element_checks r i p before d =
-    check (not (fits r p (numbers_of r.hospitals before) (number_named r.hospitals d))) (refused WRONG_ORDER i (length before + 1)) ∷ []
+    check (not (fits r p (numbers_of r.hospitals before) (number_named r.hospitals d))) (policy_refusal WRONG_ORDER i (length before + 1)) ∷ []
 
 -- a hospital of the prefecture is not among these
 abbrev pub is_missing : List ℕ → List ℕ → Bool
@@ -44,7 +44,7 @@ abbrev pub order_checks : RosterData → ℕ → ℕ → Option (List Data) → 
 order_checks r i p None = []
 order_checks r i p (Some ds) =
     checks_of (order_element_checks r i p) ds
-    ++ check (is_missing (hospitals_in r p) (numbers_of r.hospitals ds)) (refused WRONG_ORDER i (length ds + 1)) ∷ []
+    ++ check (is_missing (hospitals_in r p) (numbers_of r.hospitals ds)) (policy_refusal WRONG_ORDER i (length ds + 1)) ∷ []
 
 -- ---- an entry, item i
 
@@ -54,7 +54,7 @@ prefecture_keys = key.Name ∷ key.Cap ∷ key.Order ∷ []
 -- the limit on entries, and the shapes of the values
 abbrev pub prefecture_shape_checks : ℕ → Data → List (Option Refusal)
 prefecture_shape_checks i e =
-    check (nat_lt MOST_GROUPS i) (refused TOO_MANY_ITEMS i GROUPS_LIMIT)
+    check (nat_lt MOST_GROUPS i) (policy_refusal TOO_MANY_ITEMS i GROUPS_LIMIT)
     ∷ only_keys prefecture_keys i e
     ∷ required as_str key.Name i e
     ∷ required cap key.Cap i e
@@ -62,39 +62,39 @@ prefecture_shape_checks i e =
     ∷ []
 
 -- the prefecture that an entry names
-abbrev pub prefecture_in : RosterData → Data → ℕ
-prefecture_in r e = unwrap_or (place_of r.prefectures (name_in e)) 0
+abbrev pub prefecture_of_entry : RosterData → Data → ℕ
+prefecture_of_entry r e = unwrap_or (place_of r.prefectures (name_of_entry e)) 0
 
 -- the targets of prefecture p must fit under the cap, with kind `flexible` alone
 abbrev pub targets_check : RosterData → Kind → ℕ → ℕ → ℕ → Option Refusal
 targets_check r kind i p cap =
-    check (is_flexible kind && nat_lt cap (targets_of r p)) (refused TARGETS_ABOVE_CAP i (targets_of r p))
+    check (is_flexible kind && nat_lt cap (targets_of r p)) (policy_refusal TARGETS_ABOVE_CAP i (targets_of r p))
 
 -- its name is that of a prefecture, and of no entry before it
 abbrev pub prefecture_name_checks : List Text → List Text → ℕ → Text → List (Option Refusal)
 prefecture_name_checks prefectures names i name =
-    check (is_none (place_of prefectures name)) (refused UNKNOWN_ENTRY_NAME i 0)
-    ∷ option_map (λ f. refused REPEATED_ENTRY i (f + 1)) (place_of names name)
+    check (is_none (place_of prefectures name)) (policy_refusal UNKNOWN_ENTRY_NAME i 0)
+    ∷ option_map (λ f. policy_refusal REPEATED_ENTRY i (f + 1)) (place_of names name)
     ∷ []
 
 -- the checks of an entry, with the names of the entries before it
 abbrev pub prefecture_checks : RosterData → Kind → List Text → Data → List (Option Refusal)
 prefecture_checks r kind names e =
     let i = length names + 1 in
-    let p = prefecture_in r e in
+    let p = prefecture_of_entry r e in
     prefecture_shape_checks i e
-    ++ prefecture_name_checks r.prefectures names i (name_in e)
+    ++ prefecture_name_checks r.prefectures names i (name_of_entry e)
     ++ order_checks r i p (read_at texts key.Order e)
     ++ targets_check r kind i p (cap_in e)
     ∷ []
 
 abbrev pub prefecture_checks_after : RosterData → Kind → List Data → Data → List (Option Refusal)
-prefecture_checks_after r kind before e = prefecture_checks r kind (map name_in before) e
+prefecture_checks_after r kind before e = prefecture_checks r kind (map name_of_entry before) e
 
 -- ---- what an entry says
 
 abbrev pub members_of_prefecture : RosterData → Data → List ℕ
-members_of_prefecture r e = hospitals_in r (prefecture_in r e)
+members_of_prefecture r e = hospitals_in r (prefecture_of_entry r e)
 
 abbrev pub order_in : RosterData → Data → Option (List ℕ)
 order_in r e = option_map (numbers_of r.hospitals) (read_at texts key.Order e)

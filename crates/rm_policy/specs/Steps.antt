@@ -8,8 +8,8 @@ use Rattle.rm_market.specs.Steps.{step_fault}
 use Rattle.rm_market.specs.declared.Run.{Run}
 use Rattle.rm_market.specs.declared.StepFault.{StepFault}
 use Rattle.rm_market.specs.declared.StepFault.TheVariants as faults
-use Rattle.rm_policy.specs.Values.{cap, run, runs}
-use Rattle.rm_policy.specs.Entries.{refused, read_at, list_at}
+use Rattle.rm_policy.specs.Values.{cap, run_written, runs}
+use Rattle.rm_policy.specs.Entries.{policy_refusal, read_at, elements_at}
 use Rattle.rm_policy.specs.declared.keys.Key.TheVariants as key
 
 abbrev pub cap_in : Data → ℕ
@@ -21,19 +21,19 @@ flat n = replicate n (pos 0)
 
 -- the runs that an array holds
 abbrev pub runs_of : List Data → List Run
-runs_of ds = filter_map run ds
+runs_of ds = filter_map run_written ds
 
 abbrev pub runs_in : Data → List Run
-runs_in e = runs_of (list_at runs key.Steps e)
+runs_in e = runs_of (elements_at runs key.Steps e)
 
 abbrev pub run_refusal : ℕ → StepFault → Refusal
-run_refusal i (faults.Range r) = refused STEP_OUT_OF_RANGE i r
-run_refusal i (faults.NotConcave r) = refused STEPS_RISE i r
-run_refusal i faults.NoMemory = refused STEP_OUT_OF_RANGE i 0
+run_refusal i (faults.Range r) = policy_refusal STEP_OUT_OF_RANGE i r
+run_refusal i (faults.NotConcave r) = policy_refusal STEPS_RISE i r
+run_refusal i faults.NoMemory = policy_refusal STEP_OUT_OF_RANGE i 0
 
 -- at most so many runs, and then the runs in order: a step or count out of range, or steps that rise
 abbrev pub step_checks : ℕ → List Run → List (Option Refusal)
 step_checks i rs =
-    check (nat_lt MOST_RUNS (length rs)) (refused TOO_MANY_ITEMS i RUNS_LIMIT)
+    check (nat_lt MOST_RUNS (length rs)) (policy_refusal TOO_MANY_ITEMS i RUNS_LIMIT)
     ∷ option_map (run_refusal i) (step_fault rs)
     ∷ []

@@ -6,7 +6,7 @@ use Rattle.rm_base.specs.declared.Refusal.{Refusal}
 use Rattle.rm_base.specs.declared.codes.TheConstants.{KEY_NOT_FOR_KIND}
 use Rattle.rm_policy.specs.Keys.{key_number}
 use Rattle.rm_policy.specs.Values.{version, kind, ties, pairs, tables}
-use Rattle.rm_policy.specs.Entries.{refused, read_at, is_present, required, optional, list_at, only_keys}
+use Rattle.rm_policy.specs.Entries.{policy_refusal, read_at, is_present, required, optional, elements_at, only_keys}
 use Rattle.rm_policy.specs.declared.Kind.{Kind}
 use Rattle.rm_policy.specs.declared.Kind.TheVariants as kinds
 use Rattle.rm_policy.specs.declared.Ties.{Ties}
@@ -34,7 +34,7 @@ are_listed tie.ByHospital = false
 
 -- a key that is there and may not be
 abbrev pub only_where : Bool → Key → Data → Option Refusal
-only_where allowed k d = check (not allowed && is_present k d) (refused KEY_NOT_FOR_KIND 0 (key_number k))
+only_where allowed k d = check (not allowed && is_present k d) (policy_refusal KEY_NOT_FOR_KIND 0 (key_number k))
 
 -- a list of ties is required where the ties are listed, and its shape is checked in any case
 abbrev pub listed_check : Ties → Data → Option Refusal
@@ -58,10 +58,10 @@ top_checks d =
 -- ---- the entries, each kind in the order of the file
 
 abbrev pub prefecture_entries : Data → List Data
-prefecture_entries d = list_at tables key.Prefecture d
+prefecture_entries d = elements_at tables key.Prefecture d
 
 abbrev pub group_entries : Data → List Data
-group_entries d = list_at tables key.Group d
+group_entries d = elements_at tables key.Group d
 
 abbrev pub hospital_entries : Data → List Data
-hospital_entries d = list_at tables key.Hospital d
+hospital_entries d = elements_at tables key.Hospital d

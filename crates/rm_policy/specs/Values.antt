@@ -29,13 +29,13 @@ data_in (item d ds) = d ∷ data_in ds
 abbrev pub elements : Data → Option (List Data)
 elements d = option_map data_in (as_array d)
 
-abbrev pub keys_in : Members → List Text
-keys_in no_members = []
-keys_in (member key d ms) = key ∷ keys_in ms
+abbrev pub keys_present : Members → List Text
+keys_present no_members = []
+keys_present (member key d ms) = key ∷ keys_present ms
 
 -- the keys of a table
 abbrev pub keys_of : Data → List Text
-keys_of d = option_map_or keys_in (as_table d) []
+keys_of d = option_map_or keys_present (as_table d) []
 
 -- ---- texts
 
@@ -103,8 +103,8 @@ run_in (value ∷ count ∷ fall ∷ []) = run_with (as_integer value) (as_integ
 run_in _ = None
 
 -- a run is value and count, or value, count and fall
-abbrev pub run : Data → Option Run
-run d = option_and_then run_in (elements d)
+abbrev pub run_written : Data → Option Run
+run_written d = option_and_then run_in (elements d)
 
 -- ---- arrays whose elements have one shape
 
@@ -112,7 +112,7 @@ abbrev pub has_shape : Shape → Data → Bool
 has_shape shape.Table d = is_some (as_table d)
 has_shape shape.Text d = is_some (as_str d)
 has_shape shape.Pair d = is_some (pair d)
-has_shape shape.Run d = is_some (run d)
+has_shape shape.Run d = is_some (run_written d)
 
 -- the elements of an array, where each has this shape
 abbrev pub elements_of : Shape → Data → Option (List Data)

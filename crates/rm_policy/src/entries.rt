@@ -6,8 +6,8 @@ ghost use Rattle.std.specs.Str.{bytes_eq};
 ghost use Rattle.toml.specs.Data.{as_str};
 ghost use Rattle.toml.specs.View.{view, table_view};
 ghost use Rattle.rm_policy.specs.Keys.{key_text, key_number};
-ghost use Rattle.rm_policy.specs.Entries.{refused, bad_value, value_at, read_at, is_present, optional, list_at, is_key_among};
-ghost use Rattle.rm_policy.specs.Values.{keys_of, keys_in, elements_of, cap};
+ghost use Rattle.rm_policy.specs.Entries.{policy_refusal, bad_value, value_at, read_at, is_present, optional, elements_at, is_key_among};
+ghost use Rattle.rm_policy.specs.Values.{keys_of, keys_present, elements_of, cap};
 ghost use Rattle.rm_policy.specs.Answers.{FindsArray, ReadsList, ReadsOptional};
 
 use crate::keys::Key;
@@ -18,7 +18,7 @@ use toml::{Table, Value};
 
 /// A refusal of the policy: its code, its item and a number.
 pub fn refused(code: u8, item: u64, b: u64) -> Refusal
-    ensures { result ≡ refused code item b }
+    ensures { result ≡ policy_refusal code item b }
 {
     Refusal {
         code,
@@ -44,7 +44,7 @@ fn is_key_among(known: &[Key], text: &str) -> bool
 
 // Whether a table has no other keys than these.
 fn table_has_only(table: &Table, known: &[Key]) -> bool
-    ensures { result ≡ list_all (is_key_among known.now) (keys_in (table_view table.now)) }
+    ensures { result ≡ list_all (is_key_among known.now) (keys_present (table_view table.now)) }
 {
     for (key, _value) in table.iter() {
         if !is_key_among(known, key.as_str()) {
@@ -115,7 +115,7 @@ pub fn is_present(value: &Value, key: Key) -> bool
 
 /// The elements of the array at a key, none where it is absent.
 pub fn list_at(value: &Value, key: Key, shape: Shape, item: u64) -> Result<&[Value], Refusal>
-    ensures { ReadsList (optional (elements_of shape) key item (view value.now)) (list_at (elements_of shape) key (view value.now)) result }
+    ensures { ReadsList (optional (elements_of shape) key item (view value.now)) (elements_at (elements_of shape) key (view value.now)) result }
 {
     match array_at(value, key, shape) {
         Found::Absent => Ok(&[]),

@@ -5,9 +5,9 @@ ghost use Rattle.toml.specs.View.{view};
 ghost use Rattle.rm_base.specs.Checks.{first_of};
 ghost use Rattle.rm_base.specs.Names.{place_of};
 ghost use Rattle.rm_base.specs.Reading.{Reads};
-ghost use Rattle.rm_policy.specs.Entries.{name_in, value_at};
+ghost use Rattle.rm_policy.specs.Entries.{name_of_entry, value_at};
 ghost use Rattle.rm_policy.specs.Steps.{step_checks};
-ghost use Rattle.rm_policy.specs.GroupAnswers.{IsFit, ReadsArrays, ReadsElements, ReadsGroup, ReadsGroupName, ReadsGroupShape, ReadsLimit, runs_of_limit, steps_of_limit};
+ghost use Rattle.rm_policy.specs.GroupAnswers.{IsFit, ReadsArrays, ReadsGroupElements, ReadsGroup, ReadsGroupName, ReadsGroupShape, ReadsLimit, runs_of_limit, steps_of_limit};
 
 use crate::elements::read_names;
 use crate::entries::{Found, array_at, bad_value, has_only, list_at, refused, text_at};
@@ -171,7 +171,7 @@ fn read_elements(
     arrays: &GroupArrays<'_>,
     item: u64,
 ) -> Result<Elements, ReadFault>
-    ensures { ReadsElements roster.now names.now item (map view arrays.now.hospitals.now) (map view arrays.now.prefectures.now) (map view arrays.now.groups.now) result }
+    ensures { ReadsGroupElements roster.now names.now item (map view arrays.now.hospitals.now) (map view arrays.now.prefectures.now) (map view arrays.now.groups.now) result }
 {
     let count = arrays.hospitals.len() as u64;
     let hospitals = match read_names(alloc, arrays.hospitals, roster.hospitals(), item, 0) {
@@ -224,7 +224,7 @@ pub fn read_group<'a>(
     value: &'a Value,
 ) -> Result<GroupEntry<'a>, ReadFault>
     ensures entry { ReadsGroup roster.now first names.now (view value.now) result }
-    ensures new { IfOk result (λ e. place_of names.now (name_in (view value.now)) ≡ None) }
+    ensures new { IfOk result (λ e. place_of names.now (name_of_entry (view value.now)) ≡ None) }
     ensures few { IfOk result (λ e. first + length names.now < 5_000) }
 {
     let item = first as u64 + names.len() as u64 + 1;

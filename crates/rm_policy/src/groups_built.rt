@@ -6,7 +6,7 @@ ghost use Rattle.rm_base.specs.Checks.{first_of, checks_of};
 ghost use Rattle.rm_base.specs.Names.{place_of};
 ghost use Rattle.rm_base.specs.Reading.{Grows, Reads};
 ghost use Rattle.rm_policy.specs.EntryAnswers.{items_of};
-ghost use Rattle.rm_policy.specs.Groups.{by_prefecture, group_checks, group_checks_after, groups_of, no_groups, no_prefectures, prefectures_of, with_entry, with_group, with_prefecture};
+ghost use Rattle.rm_policy.specs.Groups.{by_prefecture, group_entry_checks, group_checks_after, groups_of, no_groups, no_prefectures, prefectures_of, with_entry, with_group, with_prefecture};
 ghost use Rattle.rm_policy.specs.Prefectures.{prefecture_checks, prefecture_checks_after};
 
 use crate::Kind;
@@ -169,7 +169,7 @@ impl Groups {
         value: &Value,
     ) -> Result<(), ReadFault>
         requires sets { map (λ s. s.items) sets.now ≡ by_prefecture roster.now }
-        ensures entry { Grows (first_of (group_checks roster.now first self.old.names (view value.now))) (with_group roster.now self.old (view value.now)) self.new result }
+        ensures entry { Grows (first_of (group_entry_checks roster.now first self.old.names (view value.now))) (with_group roster.now self.old (view value.now)) self.new result }
         ensures few { OnOk result (first + length self.old.names < 5_000) }
     {
         let entry = match read_group(alloc, roster, first, &self.names, value) {

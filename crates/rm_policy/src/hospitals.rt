@@ -2,7 +2,7 @@
 
 ghost use Rattle.std.specs.Prelude.{◌≡◌, ◌<◌, ◌≤◌, List, Some, None, IfOk, get_or, length};
 ghost use Rattle.toml.specs.View.{view};
-ghost use Rattle.rm_policy.specs.GroupAnswers.{ReadsHospital, ReadsHospitalShape};
+ghost use Rattle.rm_policy.specs.GroupAnswers.{ReadsHospitalEntry, ReadsHospitalShape};
 
 use crate::entries::{Found, array_at, bad_value, has_only, refused, text_at};
 use crate::keys::Key;
@@ -56,7 +56,7 @@ pub fn read_hospital(
     value: &Value,
 ) -> Result<HospitalEntry, ReadFault>
     requires { length former.now ≡ length roster.now.hospitals }
-    ensures { ReadsHospital roster.now (λ h. get_or former.now h None) item (view value.now) result }
+    ensures { ReadsHospitalEntry roster.now (λ h. get_or former.now h None) item (view value.now) result }
 {
     let shape = match read_shape(value, item) {
         Ok(shape) => shape,

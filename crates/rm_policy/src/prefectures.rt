@@ -4,10 +4,10 @@ ghost use Rattle.std.specs.Prelude.{◌≡◌, ◌≤◌, ◌<◌, ◌&&◌, Opt
 ghost use Rattle.toml.specs.View.{view};
 ghost use Rattle.rm_base.specs.Checks.{first_of};
 ghost use Rattle.rm_base.specs.Names.{place_of};
-ghost use Rattle.rm_policy.specs.Entries.{name_in};
+ghost use Rattle.rm_policy.specs.Entries.{name_of_entry};
 ghost use Rattle.rm_policy.specs.Prefectures.{hospitals_in, order_checks, prefecture_name_checks, targets_of};
 ghost use Rattle.rm_policy.specs.Top.{is_flexible};
-ghost use Rattle.rm_policy.specs.EntryAnswers.{FindsPrefecture, ReadsOrder, ReadsPrefecture, ReadsPrefectureShape};
+ghost use Rattle.rm_policy.specs.EntryAnswers.{FindsPrefecture, ReadsPrefectureOrder, ReadsPrefecture, ReadsPrefectureShape};
 
 use crate::Kind;
 use crate::elements::read_order;
@@ -90,7 +90,7 @@ fn optional_order(
     item: u64,
 ) -> Result<Option<Vec<u32>>, ReadFault>
     requires { members.now ≡ hospitals_in roster.now p }
-    ensures { ReadsOrder roster.now item p order.entry result }
+    ensures { ReadsPrefectureOrder roster.now item p order.entry result }
 {
     let Some(values) = order else {
         return Ok(None);
@@ -124,7 +124,7 @@ pub fn read_prefecture<'a>(
     value: &'a Value,
 ) -> Result<PrefectureEntry<'a>, ReadFault>
     ensures entry { ReadsPrefecture roster.now kind names.now (view value.now) result }
-    ensures new { IfOk result (λ e. place_of names.now (name_in (view value.now)) ≡ None) }
+    ensures new { IfOk result (λ e. place_of names.now (name_of_entry (view value.now)) ≡ None) }
     ensures few { IfOk result (λ e. (length names.now < 5_000) × (e.cap ≤ 1_000_000)) }
 {
     let item = names.len() as u64 + 1;

@@ -3,7 +3,7 @@
 ghost use Rattle.std.specs.Prelude.{◌≡◌, ◌&&◌, Some, None, not, option_map, unwrap_or};
 ghost use Rattle.rm_base.specs.Checks.{first_of};
 ghost use Rattle.toml.specs.View.{view};
-ghost use Rattle.rm_policy.specs.Entries.{refused, is_present, list_at, read_at};
+ghost use Rattle.rm_policy.specs.Entries.{policy_refusal, is_present, elements_at, read_at};
 ghost use Rattle.rm_policy.specs.Keys.{key_number};
 ghost use Rattle.rm_policy.specs.Values.{kind, pairs, version};
 ghost use Rattle.rm_policy.specs.Top.{is_flexible, are_listed, listed_check, top_checks};
@@ -60,7 +60,7 @@ fn ties_at(top: &Value) -> Option<Ties>
 
 // The pairs of a listed tie order, which must be there where the ties are listed.
 fn listed_at(top: &Value, ties: Ties) -> Result<&[Value], Refusal>
-    ensures { ReadsList (listed_check ties (view top.now)) (list_at pairs Key.Listed (view top.now)) result }
+    ensures { ReadsList (listed_check ties (view top.now)) (elements_at pairs Key.Listed (view top.now)) result }
 {
     match array_at(top, Key::Listed, Shape::Pair) {
         Found::Good(values) => Ok(values),
@@ -104,7 +104,7 @@ fn is_wrong(top: &Value, key: Key, allowed: bool) -> bool
 
 // The refusal of a key that may not be there.
 fn not_for_kind(key: Key) -> Refusal
-    ensures { result ≡ refused KEY_NOT_FOR_KIND 0 (key_number key) }
+    ensures { result ≡ policy_refusal KEY_NOT_FOR_KIND 0 (key_number key) }
 {
     refused(KEY_NOT_FOR_KIND, 0, key.number())
 }

@@ -6,7 +6,7 @@ ghost use Rattle.toml.specs.Data.{as_str, as_integer};
 ghost use Rattle.toml.specs.View.{view};
 ghost use Rattle.rm_policy.specs.Entries.{value_at};
 ghost use Rattle.rm_policy.specs.Answers.{ReadsPair};
-ghost use Rattle.rm_policy.specs.Values.{elements, elements_of, has_shape, pair, run, run_with, kind, kind_named, ties, ties_named, version, version_numbered, cap, up_to};
+ghost use Rattle.rm_policy.specs.Values.{elements, elements_of, has_shape, pair, run_written, run_with, kind, kind_named, ties, ties_named, version, version_numbered, cap, up_to};
 
 use crate::keys::Key;
 use crate::{Kind, Ties};
@@ -181,7 +181,7 @@ fn run_with(value: Option<i64>, count: Option<i64>, fall: Option<i64>) -> Option
 
 /// A run: value and count, or value, count and fall.
 pub fn run(value: &Value) -> Option<Run>
-    ensures { result ≡ run (view value.now) }
+    ensures { result ≡ run_written (view value.now) }
 {
     let Some(values) = elements(value) else {
         return None;

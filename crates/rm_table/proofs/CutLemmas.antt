@@ -5,7 +5,7 @@ use Rattle.std.proofs.Math.Seq.{drop-append_seam}
 use Rattle.csv.specs.Records.{Rising, last_end, prev}
 use Rattle.csv.proofs.RecordFacts.{rising-first, rising-end, rising-more, last-append, field-bounds}
 use Rattle.rm_table.specs.Rows.{Row, rows_from, row_of}
-use Rattle.rm_table.specs.Packed.{between, rows_cut, IsPacked}
+use Rattle.rm_table.specs.Packed.{between, rows_cut, ArePackedRows}
 
 -- one row for each place
 pub cut-length : (start : ℕ) (ends : List ℕ) (cells : Row) → length (rows_cut start ends cells) ≡ length ends
@@ -45,44 +45,44 @@ between-last : (cells row : Row) → between (length cells) (length (cells ++ ro
 between-last cells row =
     rw (drop-append_seam cells row) (take_all (length (cells ++ row) - length cells) row (omega (arith, length-append cells row)))
 
-pub none-packed : IsPacked [] []
+pub none-packed : ArePackedRows [] []
 unfolding Rising last_end
 none-packed = record { rising = omega arith; last = refl }
 
 -- a row that has a cell is one row more
-pub row-packed : (ends : List ℕ) (cells row : Row) → IsPacked ends cells → IsPacked (ends ++ length (cells ++ row) ∷ []) (cells ++ row)
+pub row-packed : (ends : List ℕ) (cells row : Row) → ArePackedRows ends cells → ArePackedRows (ends ++ length (cells ++ row) ∷ []) (cells ++ row)
 row-packed ends cells row p = record {
   rising = rising-end 0 ends (length (cells ++ row)) (rising-more 0 ends (length cells) (length (cells ++ row)) p.rising (omega (arith, length-append cells row)));
   last = last-append 0 ends (length (cells ++ row));
 }
 
-pub row-cut : (ends : List ℕ) (cells row : Row) → IsPacked ends cells
+pub row-cut : (ends : List ℕ) (cells row : Row) → ArePackedRows ends cells
     → rows_cut 0 (ends ++ length (cells ++ row) ∷ []) (cells ++ row) ≡ rows_cut 0 ends cells ++ row ∷ []
 row-cut ends cells row p =
     cut-end 0 ends (length (cells ++ row)) (cells ++ row)
     ∙ rw (cut-more 0 ends cells row p.rising, p.last, between-last cells row) refl
 
 -- what adding the cells of a row does: nothing where it has none
-pub no-row-added : (ends : List ℕ) (cells new : Row) (fields : List (List ℕ)) → IsPacked ends cells → new ≡ cells ++ row_of fields → length cells ≡ length new
-    → IsPacked ends new × (rows_cut 0 ends new ≡ rows_cut 0 ends cells ++ rows_from (fields ∷ []))
+pub no-row-added : (ends : List ℕ) (cells new : Row) (fields : List (List ℕ)) → ArePackedRows ends cells → new ≡ cells ++ row_of fields → length cells ≡ length new
+    → ArePackedRows ends new × (rows_cut 0 ends new ≡ rows_cut 0 ends cells ++ rows_from (fields ∷ []))
 no-row-added ends cells new fields p is same = at (row_of fields) refl
   where
-    at : (row : Row) → row_of fields ≡ row → IsPacked ends new × (rows_cut 0 ends new ≡ rows_cut 0 ends cells ++ rows_from (fields ∷ []))
+    at : (row : Row) → row_of fields ≡ row → ArePackedRows ends new × (rows_cut 0 ends new ≡ rows_cut 0 ends cells ++ rows_from (fields ∷ []))
     at [] none =
         let unchanged : new ≡ cells = is ∙ rw none (append-nil cells) in
         rw (unchanged, none) (p, sym (append-nil (rows_cut 0 ends cells)))
     at (cell ∷ row) some = absurd (omega (arith, same, ap length is, ap length some, length-append cells (row_of fields)))
 
-pub row-added : (ends : List ℕ) (cells new : Row) (new_ends : List ℕ) (fields : List (List ℕ)) → IsPacked ends cells → new ≡ cells ++ row_of fields → length cells ≢ length new
-    → new_ends ≡ ends ++ length new ∷ [] → IsPacked new_ends new × (rows_cut 0 new_ends new ≡ rows_cut 0 ends cells ++ rows_from (fields ∷ []))
+pub row-added : (ends : List ℕ) (cells new : Row) (new_ends : List ℕ) (fields : List (List ℕ)) → ArePackedRows ends cells → new ≡ cells ++ row_of fields → length cells ≢ length new
+    → new_ends ≡ ends ++ length new ∷ [] → ArePackedRows new_ends new × (rows_cut 0 new_ends new ≡ rows_cut 0 ends cells ++ rows_from (fields ∷ []))
 row-added ends cells new new_ends fields p is other ends_are = at (row_of fields) refl
   where
-    at : (row : Row) → row_of fields ≡ row → IsPacked new_ends new × (rows_cut 0 new_ends new ≡ rows_cut 0 ends cells ++ rows_from (fields ∷ []))
+    at : (row : Row) → row_of fields ≡ row → ArePackedRows new_ends new × (rows_cut 0 new_ends new ≡ rows_cut 0 ends cells ++ rows_from (fields ∷ []))
     at [] none = absurd (other (ap length (sym (is ∙ rw none (append-nil cells)))))
     at (cell ∷ row) some = rw (ends_are, is, some) (row-packed ends cells (cell ∷ row) p, row-cut ends cells (cell ∷ row) p)
 
 -- where a row starts and ends
-pub row-bounds : (ends : List ℕ) (cells : Row) (i : ℕ) → IsPacked ends cells → i < length ends → (prev 0 ends i ≤ get_or ends i 0) × (get_or ends i 0 ≤ length cells)
+pub row-bounds : (ends : List ℕ) (cells : Row) (i : ℕ) → ArePackedRows ends cells → i < length ends → (prev 0 ends i ≤ get_or ends i 0) × (get_or ends i 0 ≤ length cells)
 row-bounds ends cells i p h = field-bounds 0 ends (length cells) i p.rising h
 
 -- the cell at a place of a row

@@ -14,7 +14,7 @@ use Rattle.csv.specs.declared.reader.Trim.TheVariants as trim
 use Rattle.csv.proofs.ReadFacts.{rows-more, rows-end}
 use Rattle.rm_table.specs.Rows.{Row, bad_text, has_cell, row_of, rows_from, rows_of}
 use Rattle.rm_table.specs.Packed.{rows_cut}
-use Rattle.rm_table.specs.Answer.{AddsRow, Reads}
+use Rattle.rm_table.specs.Answer.{AddsRow, ReadsRows}
 use Rattle.rm_table.specs.declared.TableFault.{TableFault}
 use Rattle.rm_table.specs.declared.TableFault.TheVariants as fault
 use Rattle.rm_table.proofs.CutLemmas.{cut-length}
@@ -191,7 +191,7 @@ going-end a b bytes rows f g read =
 
 -- where adding a row fails, reading fails
 pub going-stops : (a b : Reader (Bor (List ℕ))) (bytes ends : List ℕ) (cells : Row) (f : List (List ℕ)) (new_ends : List ℕ) (new_cells : Row) (e : TableFault)
-    → Going a bytes (rows_cut 0 ends cells) → ReadRecord (λ (s : Bor (List ℕ)). Some s.now) a b true f → AddsRow ends cells f new_ends new_cells (Err e) → Reads bytes (Err e)
+    → Going a bytes (rows_cut 0 ends cells) → ReadRecord (λ (s : Bor (List ℕ)). Some s.now) a b true f → AddsRow ends cells f new_ends new_cells (Err e) → ReadsRows bytes (Err e)
 going-stops a b bytes ends cells f new_ends new_cells (fault.BadText n) g read told =
     going-bad a b bytes (rows_cut 0 ends cells) f n g read told.1 (told.0 ∙ sym (cut-length 0 ends cells))
 going-stops a b bytes ends cells f new_ends new_cells fault.NoMemory g read told = tt

@@ -13,6 +13,6 @@ rows_cut start [] cells = []
 rows_cut start (end ∷ ends) cells = between start end cells ∷ rows_cut end ends cells
 
 -- the rows end in order, and the last one where the cells end
-pub record IsPacked (ends : List ℕ) (cells : Row) : Type 0 where
+pub record ArePackedRows (ends : List ℕ) (cells : Row) : Type 0 where
   pub rising : Rising 0 ends (length cells)
   pub last : last_end 0 ends ≡ length cells

@@ -4,8 +4,8 @@
 ghost use Rattle.std.specs.Prelude.{◌≡◌, ◌<◌, ℕ, [], get_or, length};
 ghost use Rattle.csv.specs.Records.{fields_of, prev};
 ghost use Rattle.rm_table.specs.Rows.{row_of};
-ghost use Rattle.rm_table.specs.Packed.{IsPacked};
-ghost use Rattle.rm_table.specs.Answer.{Reads, PushesCells, AddsRow};
+ghost use Rattle.rm_table.specs.Packed.{ArePackedRows};
+ghost use Rattle.rm_table.specs.Answer.{ReadsRows, PushesCells, AddsRow};
 
 mod cells;
 
@@ -44,7 +44,7 @@ fn add_row(
     cells: &mut StringRecord,
     fields: &ByteRecord,
 ) -> Result<(), TableFault>
-    requires { IsPacked ends.old.items (fields_of cells.old) }
+    requires { ArePackedRows ends.old.items (fields_of cells.old) }
     ensures { AddsRow ends.old.items (fields_of cells.old) (fields_of fields.now) ends.new.items (fields_of cells.new) result }
 {
     let start = cells.len();
@@ -84,13 +84,13 @@ impl Model for Table {
     ghost use Rattle.std.specs.Prelude.{List};
     ghost use Rattle.csv.specs.Records.{fields_of};
     ghost use Rattle.rm_table.specs.Rows.{Row};
-    ghost use Rattle.rm_table.specs.Packed.{rows_cut, IsPacked};
+    ghost use Rattle.rm_table.specs.Packed.{rows_cut, ArePackedRows};
 
     ghost Value = { List Row };
 
     ghost view = { λ t. rows_cut 0 t.ends.items (fields_of t.cells) };
 
-    ghost invariant = { λ t. IsPacked t.ends.items (fields_of t.cells) };
+    ghost invariant = { λ t. ArePackedRows t.ends.items (fields_of t.cells) };
 }
 
 impl Table {
@@ -98,7 +98,7 @@ impl Table {
     /// beginning are dropped. From each cell spaces and tabs are dropped at both ends, and then empty cells at the end of a
     /// record, and records without a cell. `BadText` comes exactly where a row that is left has a cell that isn't UTF-8.
     pub fn read(alloc: Global, bytes: &[u8]) -> Result<Table, TableFault>
-        ensures { Reads bytes.now result }
+        ensures { ReadsRows bytes.now result }
     {
         // Room for all bytes, and for cells of three bytes and a comma.
         let Ok(mut cells) = StringRecord::with_capacity(alloc, bytes.len(), bytes.len() / 4) else {

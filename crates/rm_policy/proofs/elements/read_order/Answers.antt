@@ -5,7 +5,7 @@ use Rattle.rm_base.specs.Checks.{check, first_of, checks_of}
 use Rattle.rm_base.specs.declared.codes.TheConstants.{WRONG_ORDER}
 use Rattle.rm_base.proofs.CheckLemmas.{first-some}
 use Rattle.rm_base.proofs.Stopping.{stops-on}
-use Rattle.rm_policy.specs.Entries.{refused, numbers_of}
+use Rattle.rm_policy.specs.Entries.{policy_refusal, numbers_of}
 use Rattle.rm_policy.specs.Prefectures.{hospitals_in, is_missing, order_element_checks}
 use Rattle.rm_policy.proofs.ElementLemmas.{order-ends}
 use Rattle.rm_policy.proofs.elements.read_order.Goals as goal
@@ -15,7 +15,7 @@ returns-in-Err c =
     let r = c.args.roster.now in
     let ds = map view c.args.values.now in
     let elements = checks_of (order_element_checks r c.args.item c.args.p) ds in
-    let last = check (is_missing (hospitals_in r c.args.p) (numbers_of r.hospitals ds)) (refused WRONG_ORDER c.args.item (length ds + 1)) ∷ [] in
+    let last = check (is_missing (hospitals_in r c.args.p) (numbers_of r.hospitals ds)) (policy_refusal WRONG_ORDER c.args.item (length ds + 1)) ∷ [] in
     stops-on (first_of elements) (first_of (elements ++ last)) c.in-Err.fault (λ refusal some. first-some elements last refusal some) c.in-Err.ensures
 
 pub returns-then-is_missing : goal.returns-then-is_missing

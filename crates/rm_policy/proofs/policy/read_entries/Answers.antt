@@ -4,7 +4,7 @@ use Rattle.toml.specs.View.{view}
 use Rattle.rm_base.specs.Checks.{first_of, checks_of}
 use Rattle.rm_base.proofs.Stopping.{stops-on}
 use Rattle.rm_policy.specs.Groups.{group_checks_after}
-use Rattle.rm_policy.specs.Hospitals.{hospital_checks_after}
+use Rattle.rm_policy.specs.Hospitals.{hospital_entry_checks_after}
 use Rattle.rm_policy.specs.Prefectures.{prefecture_checks_after}
 use Rattle.rm_policy.proofs.EntryLemmas.{three-first, three-second, three-third}
 use Rattle.rm_policy.proofs.policy.read_entries.Goals as goal
@@ -18,7 +18,7 @@ returns-in-Err-clause-entries c =
     let hs = map view top.hospitals.now in
     let one = checks_of (prefecture_checks_after r top.kind) ps in
     let two = checks_of (group_checks_after r (length ps)) gs in
-    let three = checks_of (hospital_checks_after r (length ps + length gs)) hs in
+    let three = checks_of (hospital_entry_checks_after r (length ps + length gs)) hs in
     let count : length top.prefectures.now ≡ length ps = sym (length-map top.prefectures.now view) in
     let more : length top.groups.now ≡ length gs = sym (length-map top.groups.now view) in
     stops-on (first_of one) (first_of (one ++ two ++ three)) c.in-Err.fault (λ refusal some. three-first one two three refusal some) c.in-Err.ensures.entries
@@ -32,7 +32,7 @@ returns-in-Err-read-clause-entries c =
     let hs = map view top.hospitals.now in
     let one = checks_of (prefecture_checks_after r top.kind) ps in
     let two = checks_of (group_checks_after r (length ps)) gs in
-    let three = checks_of (hospital_checks_after r (length ps + length gs)) hs in
+    let three = checks_of (hospital_entry_checks_after r (length ps + length gs)) hs in
     let count : length top.prefectures.now ≡ length ps = sym (length-map top.prefectures.now view) in
     let more : length top.groups.now ≡ length gs = sym (length-map top.groups.now view) in
     stops-on (first_of two) (first_of (one ++ two ++ three)) c.in-Err-read.fault (λ refusal some. three-second one two three refusal c.in-Ok.ensures.entries.0 some) (rw count at c.in-Err-read.ensures.entries)
@@ -46,7 +46,7 @@ returns-in-Err-read-2-clause-entries c =
     let hs = map view top.hospitals.now in
     let one = checks_of (prefecture_checks_after r top.kind) ps in
     let two = checks_of (group_checks_after r (length ps)) gs in
-    let three = checks_of (hospital_checks_after r (length ps + length gs)) hs in
+    let three = checks_of (hospital_entry_checks_after r (length ps + length gs)) hs in
     let count : length top.prefectures.now ≡ length ps = sym (length-map top.prefectures.now view) in
     let more : length top.groups.now ≡ length gs = sym (length-map top.groups.now view) in
     let a = c.in-Ok.ensures.entries in
@@ -62,7 +62,7 @@ returns-in-Ok-read-2-clause-entries c =
     let hs = map view top.hospitals.now in
     let one = checks_of (prefecture_checks_after r top.kind) ps in
     let two = checks_of (group_checks_after r (length ps)) gs in
-    let three = checks_of (hospital_checks_after r (length ps + length gs)) hs in
+    let three = checks_of (hospital_entry_checks_after r (length ps + length gs)) hs in
     let count : length top.prefectures.now ≡ length ps = sym (length-map top.prefectures.now view) in
     let more : length top.groups.now ≡ length gs = sym (length-map top.groups.now view) in
     let a = c.in-Ok.ensures.entries in

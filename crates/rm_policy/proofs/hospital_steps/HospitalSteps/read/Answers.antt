@@ -2,7 +2,7 @@ use Rattle.std.proofs.Common.{arith, refl, ap, ◌∙◌, ◌+◌, length, get_o
 use Rattle.toml.specs.View.{view}
 use Rattle.rm_base.specs.Checks.{first_of, checks_of}
 use Rattle.rm_base.proofs.Stopping.{stops-on}
-use Rattle.rm_policy.specs.Hospitals.{hospital_checks, hospital_checks_after}
+use Rattle.rm_policy.specs.Hospitals.{hospital_entry_checks, hospital_entry_checks_after}
 use Rattle.rm_policy.proofs.HospitalRows.{hospitals-none, hospitals-more, hospitals-stop, hospitals-all}
 use Rattle.rm_policy.proofs.hospital_steps.HospitalSteps.read.Goals as goal
 
@@ -14,7 +14,7 @@ pub returns-in-Err : goal.returns-in-Err
 returns-in-Err c =
     let r = c.args.roster.now in
     let items = c.loop-k.items.items in
-    stops-on (first_of (hospital_checks r (λ h. get_or items h None) (c.args.first + (c.loop-k.k + 1)) (view c.index-values-k.result))) (first_of (checks_of (hospital_checks_after r c.args.first) (map view c.args.values.now))) c.in-Err.fault
+    stops-on (first_of (hospital_entry_checks r (λ h. get_or items h None) (c.args.first + (c.loop-k.k + 1)) (view c.index-values-k.result))) (first_of (checks_of (hospital_entry_checks_after r c.args.first) (map view c.args.values.now))) c.in-Err.fault
     (λ refusal some. hospitals-stop r c.args.first c.args.values.now c.loop-k.k c.index-values-k.result items c.loop-k.steps.items refusal c.loop-k.invariant c.loop-k-test.true c.index-values-k.is some)
     (rw c.deref.ensures.value at c.in-Err.ensures)
 
