@@ -1,10 +1,12 @@
 -- Names stay distinct where one that is not held is added.
-use Rattle.std.proofs.Common.{◌≡◌, ◌<◌, ◌≤◌, ◌∙◌, ℕ, zero, suc, List, [], ◌∷◌, ◌++◌, length, map, slice_get, Some, None, String, string_bytes, inl, inr, refl, sym, ap, arith, length-append}
+use Rattle.std.proofs.Common.{◌≡◌, ◌<◌, ◌≤◌, ◌∙◌, ℕ, zero, suc, List, [], ◌∷◌, ◌++◌, length, map, slice_get, Some, None, inl, inr, refl, sym, ap, arith, length-append}
 use Rattle.std.specs.Str.{bytes_eq}
 use Rattle.std.proofs.lemmas.Slice.Eq.{bytes_eq-Decides}
 use Rattle.std.proofs.lemmas.Option.{slice_get_within}
 use Rattle.std.proofs.lemmas.Bool.{cases_lt}
+use Rattle.rm_base.specs.KeptName.{kept_text}
 use Rattle.rm_base.specs.Names.{place_of, AreDistinct}
+use Rattle.rm_base.specs.declared.kept_name.KeptName.{KeptName}
 use Rattle.rm_base.proofs.FirstPlaces.{position_push}
 use Rattle.rm_base.proofs.TextLemmas.{length_of_map}
 
@@ -39,9 +41,9 @@ distinct-more names name distinct none =
     record { found = found }
 
 -- what a set of names keeps to, after one more
-pub grown : {Z : Type 0} (name : List ℕ) (ks new : List (String Z)) → length ks < 4000000000 → AreDistinct (map string_bytes ks) → place_of (map string_bytes ks) name ≡ None
-    → map string_bytes new ≡ map string_bytes ks ++ name ∷ [] → (length new ≤ 4000000000) × AreDistinct (map string_bytes new)
+pub grown : (name : List ℕ) (ks new : List KeptName) → length ks < 4000000000 → AreDistinct (map kept_text ks) → place_of (map kept_text ks) name ≡ None
+    → map kept_text new ≡ map kept_text ks ++ name ∷ [] → (length new ≤ 4000000000) × AreDistinct (map kept_text new)
 grown name ks new few distinct none same = (
-  omega (arith, few, length_of_map string_bytes ks, length_of_map string_bytes new, ap length same, length-append (map string_bytes ks) (name ∷ [])),
-  rw same (distinct-more (map string_bytes ks) name distinct none),
+  omega (arith, few, length_of_map kept_text ks, length_of_map kept_text new, ap length same, length-append (map kept_text ks) (name ∷ [])),
+  rw same (distinct-more (map kept_text ks) name distinct none),
 )

@@ -5,9 +5,12 @@ ghost use Rattle.std.specs.Prelude.{◌≡◌, ◌<◌, ◌≤◌, ◌+◌, ℕ,
 ghost use Rattle.rm_base.specs.Names.{place_of, Adds, AreDistinct};
 
 pub mod codes;
+mod kept_name;
+mod short_name;
 pub mod text;
 
 use indexmap::IndexSet;
+use kept_name::KeptName;
 use std::alloc::{AllocError, Global};
 use std::marker::Model;
 
@@ -51,18 +54,19 @@ pub enum Added {
 /// A list of distinct names, each with its number, which counts from 0.
 #[derive(Drop)]
 pub struct Names {
-    set: IndexSet<String>,
+    set: IndexSet<KeptName<'static>>,
 }
 
 impl Model for Names {
-    ghost use Rattle.std.specs.Prelude.{List, ℕ, map, string_bytes, ◌≤◌, length};
+    ghost use Rattle.std.specs.Prelude.{List, ℕ, map, ◌≤◌, length};
+    ghost use Rattle.rm_base.specs.KeptName.{kept_text};
     ghost use Rattle.rm_base.specs.Names.{AreDistinct};
 
     ghost Value = { List (List ℕ) };
 
-    ghost view = { λ s. map string_bytes s.set.keys };
+    ghost view = { λ s. map kept_text s.set.keys };
 
-    ghost invariant = { λ s. (length s.set.keys ≤ 4_000_000_000) × AreDistinct (map string_bytes s.set.keys) };
+    ghost invariant = { λ s. (length s.set.keys ≤ 4_000_000_000) × AreDistinct (map kept_text s.set.keys) };
 }
 
 impl Names {
@@ -75,6 +79,14 @@ impl Names {
         }
     }
 
+    /// Holds no name, and has room for so many, from 0. NoMemory is the one error.
+    pub fn with_capacity(alloc: Global, count: u32) -> Result<Names, NoMemory>
+        ensures { IfOk result (λ names. names ≡ []) }
+    {
+        let set = IndexSet::with_capacity(alloc, count as usize)?;
+        Ok(Names { set })
+    }
+
     /// Adds a name that is not held, as the last; fewer than 4,000,000,000 are held. Where it is held, its number is answered
     /// and nothing changes.
     #[tactic(auto, using(crate::proofs::TextLemmas::position_map, std::proofs::lemmas::Grind::common_steps))]
@@ -82,14 +94,14 @@ impl Names {
         requires { length self.old < 4_000_000_000 }
         ensures { Adds self.old name.now self.new result }
     {
-        if let Some(n) = self.set.get_index_of(name) {
+        if let Some(n) = self.set.get_index_of(&KeptName::Lent(name)) {
             return Added::There(n as u32);
         }
         let alloc = *self.set.allocator();
-        let Ok(text) = String::from_str(alloc, name) else {
+        let Ok(kept) = KeptName::new(alloc, name) else {
             return Added::NoMemory;
         };
-        let Ok((n, _)) = self.set.insert_full(text) else {
+        let Ok((n, _)) = self.set.insert_full(kept) else {
             return Added::NoMemory;
         };
         Added::Added(n as u32)
@@ -100,7 +112,7 @@ impl Names {
     pub fn find(&self, name: &str) -> Option<u32>
         ensures { result ≡ place_of self.now name.now }
     {
-        match self.set.get_index_of(name) {
+        match self.set.get_index_of(&KeptName::Lent(name)) {
             None => None,
             Some(n) => Some(n as u32),
         }

@@ -15,6 +15,55 @@ fn adds_and_finds_names(rt: HostRuntime) -> Result<(), Fail> {
     Ok(())
 }
 
+// A name and another, which differ in the last byte alone.
+#[derive(Clone, Copy)]
+struct Row {
+    name: &'static str,
+    other: &'static str,
+}
+
+// The most bytes that are kept in place, one more, and the most that a name has.
+const ROWS: [Row; 3] = [
+    Row {
+        name: "123456789 123456789 123456789A",
+        other: "123456789 123456789 123456789B",
+    },
+    Row {
+        name: "123456789 123456789 1234567890A",
+        other: "123456789 123456789 1234567890B",
+    },
+    Row {
+        name: "123456789 123456789 123456789 123456789 123456789 123456789 123A",
+        other: "123456789 123456789 123456789 123456789 123456789 123456789 123B",
+    },
+];
+
+// Whether both names are added, found and read back, and each is there when it is added again.
+fn keeps(alloc: Global, row: &Row) -> Result<bool, NoMemory> {
+    let mut names = Names::with_capacity(alloc, 2)?;
+    let first = names.add(row.other);
+    let second = names.add(row.name);
+    if first != Added::Added(0) || second != Added::Added(1) || names.len() != 2 {
+        return Ok(false);
+    }
+    let other_again = names.add(row.other);
+    let again = names.add(row.name);
+    if other_again != Added::There(0) || again != Added::There(1) || names.len() != 2 {
+        return Ok(false);
+    }
+    let found = names.find(row.other) == Some(0) && names.find(row.name) == Some(1);
+    Ok(found && names.name(0) == row.other && names.name(1) == row.name)
+}
+
+#[test]
+fn keeps_long_names(rt: HostRuntime) -> Result<(), Fail> {
+    for row in &ROWS {
+        let name = row.name;
+        assert!(rt; keeps(rt.alloc(), row)?, "{name}");
+    }
+    Ok(())
+}
+
 #[test]
 fn keeps_places(rt: HostRuntime) -> Result<(), Fail> {
     let mut places = Places::empty(rt.alloc(), 3)?;

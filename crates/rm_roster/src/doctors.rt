@@ -114,7 +114,9 @@ impl Doctors {
         else {
             return Err(RosterFault::NoMemory);
         };
-        let mut names = Names::new(alloc);
+        let Ok(mut names) = Names::with_capacity(alloc, count) else {
+            return Err(RosterFault::NoMemory);
+        };
         for i in 1..table.rows() {
             read_doctor(&table.row(i), hospitals, &mut names, &mut lists)?;
         }

@@ -131,17 +131,18 @@ impl Model for Hospitals {
 }
 
 impl Hospitals {
-    // No hospital.
-    fn new(alloc: Global) -> Hospitals
-        ensures { result ≡ hospitals_of [] }
+    // No hospital, and room for the names of so many.
+    fn with_capacity(alloc: Global, count: u32) -> Result<Hospitals, NoMemory>
+        ensures { IfOk result (λ hospitals. hospitals ≡ hospitals_of []) }
     {
-        Hospitals {
-            names: Names::new(alloc),
+        let names = Names::with_capacity(alloc, count)?;
+        Ok(Hospitals {
+            names,
             prefectures: Names::new(alloc),
             prefecture_of: Vec::new(alloc),
             capacities: Vec::new(alloc),
             targets: Vec::new(alloc),
-        }
+        })
     }
 
     /// The names of the hospitals.
@@ -211,7 +212,10 @@ impl Hospitals {
     fn read_rows(alloc: Global, table: &Table) -> Result<Hospitals, RosterFault>
         ensures { Reads (first_of (checks_of hospital_checks_after (data_rows table.now))) (hospitals_of (data_rows table.now)) result }
     {
-        let mut hospitals = Hospitals::new(alloc);
+        let count = table.rows().min(MOST_HOSPITALS as usize) as u32;
+        let Ok(mut hospitals) = Hospitals::with_capacity(alloc, count) else {
+            return Err(RosterFault::NoMemory);
+        };
         let mut seats = 0;
         for i in 1..table.rows() {
             let hospital = match read_hospital(&table.row(i), hospitals.names(), seats) {

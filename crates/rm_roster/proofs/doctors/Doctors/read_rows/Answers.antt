@@ -8,7 +8,7 @@ use Rattle.rm_roster.proofs.doctors.Doctors.read_rows.Goals as goal
 pub loop-i-init : goal.loop-i-init
 loop-i-init c =
     let count : c.min-count.result ≡ min (length c.args.table.now - 1) (MOST_DOCTORS + 1) = search rules in
-    rw (c.new-names.ensures, c.in-Ok.ensures) (none-read c.args.hospitals.now c.args.table.now c.min-count.result c.len.result count c.len.ensures.count)
+    rw (c.in-Ok-with_capacity.ensures, c.in-Ok.ensures) (none-read c.args.hospitals.now c.args.table.now c.min-count.result c.len.result count c.len.ensures.count)
 
 pub read_doctor-requires : goal.read_doctor-requires
 read_doctor-requires c =
