@@ -5,3 +5,6 @@ pub mod ListedOrders
 pub mod Places
 pub mod RuleOrders
 pub mod BoardNodes
+pub mod Starts
+pub mod Filling
+pub mod Firsts

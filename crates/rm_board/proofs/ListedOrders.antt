@@ -1,17 +1,17 @@
 -- A listed order, element by element.
-use Rattle.std.proofs.Common.{Err, ◌≡◌, ◌∙◌, sym, ap, refl, ℕ, zero, suc, ◌+◌, ◌<◌, ◌≤◌, List, [], ◌∷◌, ◌++◌, length, map, filter, filter_map, get_or, set, replicate, Bool, true, false, not, ◌&&◌, nat_lt, cond, Option, Some, None, option_map, option_and_then, inl, inr, arith, length-append, length-set, add-zero}
+use Rattle.std.proofs.Common.{Err, eqb, ◌≡◌, ◌∙◌, sym, ap, refl, ℕ, zero, suc, ◌+◌, ◌<◌, ◌≤◌, List, [], ◌∷◌, ◌++◌, length, map, filter, filter_map, get_or, set, replicate, Bool, true, false, not, ◌&&◌, nat_lt, cond, Option, Some, None, option_map, option_and_then, inl, inr, arith, length-append, length-set, add-zero}
 use Rattle.std.specs.Bool.{◌==◌}
-use Rattle.std.specs.List.{list_any, position, position_from, enumerate_from, last_or, find}
+use Rattle.std.specs.List.{IsDistinct, list_any, position, position_from, enumerate_from, last_or, find}
 use Rattle.std.proofs.lemmas.Bool.{cases_lt, cases_eq}
 use Rattle.std.proofs.lemmas.Bool.Decides.{nat_tests}
 use Rattle.std.proofs.lemmas.List.{get_or-replicate, get_or_past, length-replicate, get_or_read, append-nil, get_or-set_same, get_or-set_other, map-append}
 use Rattle.std.proofs.lemmas.List.Elements.{filter_map-append, filter-append}
 use Rattle.std.proofs.lemmas.List.Folds.{list_any-append}
 use Rattle.std.proofs.lemmas.Iterator.Adapters.{position_from-zero}
-use Rattle.rm_sets.specs.Sets.{has, IsIn, IsOnce}
+use Rattle.rm_sets.specs.Sets.{has, IsIn}
 use Rattle.rm_sets.proofs.Sets.{has-append, IsIn-cases, not_both}
 use Rattle.rm_sets.proofs.Members.{not_in_nil, IsIn-append_cases}
-use Rattle.rm_sets.proofs.Once.{once_append, distinct_from_once}
+use Rattle.rm_sets.proofs.Once.{distinct_append, distinct_none, distinct_one}
 use Rattle.std.proofs.lemmas.Map.Steps.{length-le_from_distinct_below}
 use Rattle.rm_base.specs.Checks.{first_of, checks_of}
 use Rattle.rm_base.specs.declared.ListedPair.{ListedPair}
@@ -152,8 +152,8 @@ module _ (ranks : List (List ℕ)) (before : List ListedPair) (order named last 
     | inr other ↦ rw (get_or-set_other named x y n 0 other, l.in_order y lt-y) (grind (arith, nat_tests, other))
   ]
 
-  new-once : get_or named x 0 ≡ 0 → IsOnce (order ++ x ∷ [])
-  new-once new = once_append order (x ∷ []) l.once (refl, tt) (λ y there here.
+  new-once : get_or named x 0 ≡ 0 → IsDistinct eqb (order ++ x ∷ [])
+  new-once new = distinct_append order (x ∷ []) l.once (distinct_one x) (λ y there here.
       let same : y ≡ x = only y here in
       let no : has y order ≡ false = l.in_order y (omega arith) ∙ rw (same, new) (grind (arith, nat_tests)) in
       not_both (has y order) there no)
@@ -210,7 +210,7 @@ none-listed ranks n h =
     record {
       contracts = refl;
       long = refl;
-      once = tt;
+      once = distinct_none;
       within = λ x there. absurd (not_in_nil x there);
       in_order = λ x lt. rw (zeros n x) (grind (arith, nat_tests));
       place = λ x lt. rw (zeros n x) refl;
@@ -221,7 +221,7 @@ none-listed ranks n h =
 
 pub few-listed : (ranks : List (List ℕ)) (before : List ListedPair) (order named last greatest : List ℕ) → IsListing ranks before order named last greatest → length order ≤ length (pairs_of ranks)
 few-listed ranks before order named last greatest l =
-    length-le_from_distinct_below order (length (pairs_of ranks)) (distinct_from_once order l.once) (λ q there. l.within q there)
+    length-le_from_distinct_below order (length (pairs_of ranks)) l.once (λ q there. l.within q there)
 
 -- ---- the end
 

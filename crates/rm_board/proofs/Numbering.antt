@@ -1,16 +1,23 @@
 -- The numbers of contracts: one rank list after the other, and where a contract of one hospital stands.
-use Rattle.std.proofs.Common.{inl, inr, ◌≡◌, ◌∙◌, sym, ap, refl, ℕ, zero, suc, ◌+◌, ◌-◌, ◌<◌, ◌≤◌, List, [], ◌∷◌, ◌++◌, length, map, take, drop, get_or, replicate, Bool, true, false, ◌&&◌, cond, Some, None, option_map, arith, append_assoc, add-zero, length-append, take-append-drop}
+use Rattle.std.proofs.Common.{inl, inr, ◌≡◌, ◌≢◌, ◌∙◌, sym, ap, refl, ℕ, zero, suc, ◌+◌, ◌-◌, ◌<◌, ◌≤◌, ◌^◌, nat_lt, IfSome, List, [], ◌∷◌, ◌++◌, length, map, take, drop, get_or, replicate, Bool, true, false, ◌&&◌, cond, Option, Some, None, option_map, arith, append_assoc, add-zero, length-append, take-append-drop}
 use Rattle.std.specs.Bool.{◌==◌}
-use Rattle.std.specs.List.{sum_by, position, position_from, AllByRecursion}
+use Rattle.std.specs.List.{sum_by, position, position_from, slice_range, AllByRecursion}
 use Rattle.std.proofs.lemmas.Bool.{cases_lt}
 use Rattle.std.proofs.lemmas.Bool.Decides.{nat_tests}
-use Rattle.std.proofs.lemmas.List.{get_or-map, take_all, get_or_append_left, get_or_push, append-nil, length-map, map-append, take_more, length-take-le}
+use Rattle.std.proofs.lemmas.List.{get_or-map, get_or-take, get_or-drop, take_all, take_at, drop_at, ext_get_or, get_or_append_left, get_or_push, append-nil, length-map, map-append, take_more, length-take-le}
 use Rattle.std.proofs.lemmas.Iterator.Adapters.{position_from-zero}
-use Rattle.std.proofs.lemmas.List.Quantifiers.{position-Some}
-use Rattle.std.proofs.lemmas.List.Sums.{sum_by-cons}
+use Rattle.std.proofs.lemmas.List.Sums.{sum_by-cons, position_or_len_is}
+use Rattle.rm_sets.specs.Sets.{IsIn, below}
+use Rattle.rm_sets.proofs.Members.{IsIn-all_below}
+use Rattle.rm_sets.proofs.Once.{length-below, get_or-below}
+use Rattle.rm_sets.proofs.Sets.{below-all_below}
 use Rattle.rm_board_laws.proofs.Contracts.{pair_in}
 use Rattle.rm_market.specs.Board.{pairs_from, pairs_of, number_of, owners_of_ranks}
-use Rattle.rm_board.specs.Numbers.{AreContracts}
+use Rattle.rm_board.specs.ByDoctor.{AreByDoctor, IsFirstWithin, contracts_of_doctor}
+use Rattle.rm_board.proofs.Filling.{starts-rise, starts-within, no-contracts}
+use Rattle.rm_board.specs.Numbers.{AreContracts, rank_lists}
+use Rattle.rm_board.specs.declared.doctors.ByDoctor.{ByDoctor}
+use Rattle.rm_board.specs.declared.hospitals.ByHospital.{ByHospital}
 
 -- the contracts of one rank list
 abbrev pub own : ℕ → List ℕ → List (ℕ × ℕ)
@@ -52,6 +59,25 @@ hospitals-more ranks h lt =
 
 pub length-own : (h : ℕ) (rank : List ℕ) → length (own h rank) ≡ length rank
 length-own h rank = length-map {B = ℕ × ℕ} rank (λ d. (d, h))
+
+-- the doctors of a hospital's contracts are its rank list
+pub rank-is : (ranks : List (List ℕ)) (h start end : ℕ) → h < length ranks → start ≡ length (pairs_of (take h ranks)) → end ≡ length (pairs_of (take (h + 1) ranks)) →
+    slice_range (owners_of_ranks ranks) start end ≡ get_or ranks h []
+rank-is ranks h start end lt start-is end-is =
+    let before = owners_of_ranks (take h ranks) in
+    let rank = get_or ranks h [] in
+    let after = map (λ (p : ℕ × ℕ). p.0) (pairs_from (0 + length (take (h + 1) ranks)) (drop (h + 1) ranks)) in
+    let parts : pairs_of ranks ≡ pairs_of (take (h + 1) ranks) ++ pairs_from (0 + length (take (h + 1) ranks)) (drop (h + 1) ranks) =
+    ap pairs_of (sym (take-append-drop (h + 1) ranks)) ∙ pairs-append 0 (take (h + 1) ranks) (drop (h + 1) ranks) in
+    let whole : owners_of_ranks ranks ≡ before ++ (rank ++ after) =
+    ap (map (λ (p : ℕ × ℕ). p.0)) parts
+    ∙ map-append (λ (p : ℕ × ℕ). p.0) (pairs_of (take (h + 1) ranks)) (pairs_from (0 + length (take (h + 1) ranks)) (drop (h + 1) ranks))
+    ∙ ap (λ (ds : List ℕ). ds ++ after) (doctors-more ranks h lt)
+    ∙ append_assoc before rank after in
+    let long : length before ≡ start = length-map {B = ℕ} (pairs_of (take h ranks)) (λ p. p.0) ∙ sym start-is in
+    let longer : length rank ≡ end - start =
+    omega (arith, start-is, end-is, ap length (pairs-more ranks h lt), length-append (pairs_of (take h ranks)) (own h rank), length-own h rank) in
+    rw (whole, drop_at before (rank ++ after) start long) (take_at rank after (end - start) longer)
 
 pub length-pairs : (s : ℕ) (ranks : List (List ℕ)) → length (pairs_from s ranks) ≡ sum_by length ranks
 length-pairs s [] = refl
@@ -115,24 +141,62 @@ number-within ranks h place lt within =
     let longer = length-append (pairs_of (take h ranks)) (own h (get_or ranks h [])) in
     omega (arith, within, pairs-front ranks (h + 1), ap length (pairs-more ranks h lt), longer, length-own h (get_or ranks h []))
 
-pub number-fits : (ranks : List (List ℕ)) (d h place : ℕ) → h < length ranks → position (λ x. x == d) (get_or ranks h []) ≡ Some place → length (pairs_of (take h ranks)) + place < length (pairs_of ranks)
-number-fits ranks d h place lt there = number-within ranks h place lt (position-Some (λ x. x == d) (get_or ranks h []) place 0 there).0
-
 -- ---- what finding a contract answers
 
-pub find-some : (ranks : List (List ℕ)) (d h place start : ℕ) → h < length ranks → start ≡ length (pairs_of (take h ranks)) → Some place ≡ position (λ x. x == d) (get_or ranks h []) → Some (start + place) ≡ number_of ranks d h
-find-some ranks d h place start lt start-is there = rw (start-is, number-is ranks d h lt, ← there) refl
+module _ (ranks : List (List ℕ)) (d h start end : ℕ) (lt : h < length ranks) (start-is : start ≡ length (pairs_of (take h ranks))) (end-is : end ≡ length (pairs_of (take (h + 1) ranks))) where
+  abbrev rank : List ℕ
+  rank = get_or ranks h []
 
-pub find-none : (ranks : List (List ℕ)) (d h : ℕ) → h < length ranks → None ≡ position (λ x. x == d) (get_or ranks h []) → None ≡ number_of ranks d h
-find-none ranks d h lt there = rw (number-is ranks d h lt, ← there) refl
+  abbrev owners : List ℕ
+  owners = owners_of_ranks ranks
+
+  long : end ≡ start + length rank
+  long = omega (arith, start-is, end-is, ap length (pairs-more ranks h lt), length-append (pairs_of (take h ranks)) (own h rank), length-own h rank)
+
+  fits : end ≤ length owners
+  fits = omega (arith, end-is, pairs-front ranks (h + 1), length-map {B = ℕ} (pairs_of ranks) (λ p. p.0))
+
+  ranked : (k : ℕ) → k < length rank → get_or rank k 0 ≡ get_or owners (start + k) 0
+  ranked k less =
+      ap (λ (ds : List ℕ). get_or ds k 0) (sym (rank-is ranks h start end lt start-is end-is))
+      ∙ get_or-take (end - start) (drop start owners) k 0 (omega (arith, long))
+      ∙ get_or-drop start owners k 0
+
+  -- a doctor who stands at a place of the rank list has that contract
+  is-own : (k : ℕ) → k < length rank → get_or rank k 0 ≡ d → IsIn (start + k) (contracts_of_doctor owners d)
+  is-own k less same = IsIn-all_below (length owners) (λ x. get_or owners x 0 == d) (start + k) (omega (arith, long, fits)) (let e = ranked k less in grind (arith, nat_tests, e, same))
+
+  first-place : (place : ℕ) → place < length rank → get_or rank place 0 ≡ d → ((k : ℕ) → k < place → get_or rank k 0 ≢ d) → position (λ x. x == d) rank ≡ Some place
+  first-place place less here others =
+      let first = position_or_len_is (λ x. x == d) rank place 0 (omega arith) (λ k before. let other = others k before in grind (arith, nat_tests, other)) (λ within. grind (arith, nat_tests, here)) in
+      let inside : nat_lt place (length rank) ≡ true = grind (arith, nat_tests) in
+      rw (first, inside) refl
+
+  no-place : ((k : ℕ) → k < length rank → get_or rank k 0 ≢ d) → position (λ x. x == d) rank ≡ None
+  no-place others =
+      let none = position_or_len_is (λ x. x == d) rank (length rank) 0 (omega arith) (λ k before. let other = others k before in grind (arith, nat_tests, other)) (λ within. absurd (omega arith)) in
+      let past : nat_lt (length rank) (length rank) ≡ false = grind (arith, nat_tests) in
+      rw (none, past) refl
+
+  pub found : (r : Option ℕ) → IsFirstWithin (contracts_of_doctor owners d) start end r → r ≡ number_of ranks d h
+  found (Some x) first =
+      let mine = below-all_below (length owners) (λ y. get_or owners y 0 == d) x first.0 in
+      let e : start + (x - start) ≡ x = omega (arith, first.1) in
+      let less : x - start < length rank = omega (arith, first.1, first.2, long) in
+      let same : get_or owners x 0 ≡ d = let passes = mine.1 in grind (arith, nat_tests, passes) in
+      let here : get_or rank (x - start) 0 ≡ d = ranked (x - start) less ∙ rw e same in
+      let place = first-place (x - start) less here (λ k before other. let least = first.3 (start + k) (is-own k (omega (arith, less)) other) (omega arith) in omega (arith, least)) in
+      let is : length (pairs_of (take h ranks)) + (x - start) ≡ x = omega (arith, e, start-is) in
+      sym (number-is ranks d h lt ∙ rw (place, is) refl)
+  found None none =
+      let nowhere = no-place (λ k less same. let past = none (start + k) (is-own k less same) (omega arith) in omega (arith, past, long)) in
+      sym (number-is ranks d h lt ∙ rw nowhere refl)
+
+  pub found-within : (r : Option ℕ) → IsFirstWithin (contracts_of_doctor owners d) start end r → length (pairs_of ranks) < 4_000_000_000 → IfSome r (λ x. (x < length (pairs_of ranks)) × (x < 4_000_000_000))
+  found-within (Some x) first few = (omega (arith, first.2, end-is, pairs-front ranks (h + 1)), omega (arith, first.2, end-is, pairs-front ranks (h + 1), few))
+  found-within None none few = tt
 
 -- ---- the contracts of the first h hospitals
-
-pub record AreNumbered (ranks : List (List ℕ)) (h : ℕ) (doctors hospitals starts : List ℕ) : Type 0 where
-  pub doctor : doctors ≡ owners_of_ranks (take h ranks)
-  pub hospital : hospitals ≡ map (λ p. p.1) (pairs_of (take h ranks))
-  pub as_many : length starts ≡ h
-  pub start : (k : ℕ) → k < h → get_or starts k 0 ≡ length (pairs_of (take k ranks))
 
 pub few-contracts : (ranks : List (List ℕ)) → sum_by length ranks < 4_000_000_000 → length (pairs_of ranks) < 4_000_000_000
 few-contracts ranks few = omega (arith, length-pairs 0 ranks)
@@ -140,50 +204,103 @@ few-contracts ranks few = omega (arith, length-pairs 0 ranks)
 length-doctors : (ranks : List (List ℕ)) (h : ℕ) → length (owners_of_ranks (take h ranks)) ≡ length (pairs_of (take h ranks))
 length-doctors ranks h = length-map {B = ℕ} (pairs_of (take h ranks)) (λ p. p.0)
 
-module _ (ranks : List (List ℕ)) (h : ℕ) (doctors hospitals starts : List ℕ) (done : AreNumbered ranks h doctors hospitals starts) where
-  pub start-is : length doctors ≡ length (pairs_of (take h ranks))
-  start-is = ap length done.doctor ∙ length-doctors ranks h
+pub record AreNumbered (ranks : List (List ℕ)) (h : ℕ) (b : ByHospital) : Type 0 where
+  pub doctor : b.doctors.items ≡ owners_of_ranks (take h ranks)
+  pub hospital : b.hospitals.items ≡ map (λ p. p.1) (pairs_of (take h ranks))
+  pub as_many : length b.starts.items ≡ h + 1
+  pub start : (k : ℕ) → k ≤ h → get_or b.starts.items k 0 ≡ length (pairs_of (take k ranks))
 
-  pub start-fits : sum_by length ranks < 4_000_000_000 → length doctors < 4_000_000_000
-  start-fits few = omega (arith, start-is, pairs-front ranks h, few-contracts ranks few)
+module _ (ranks : List (List ℕ)) (h : ℕ) (b : ByHospital) (done : AreNumbered ranks h b) where
+  count-is : length b.doctors.items ≡ length (pairs_of (take h ranks))
+  count-is = ap length done.doctor ∙ length-doctors ranks h
 
-  start-more : (n : ℕ) → n ≡ length (pairs_of (take h ranks)) → (k : ℕ) → k < h + 1 → get_or (starts ++ n ∷ []) k 0 ≡ length (pairs_of (take k ranks))
-  start-more n n-is k lt = elim (cases_lt k h) [
-    | inl before ↦ get_or_append_left starts (n ∷ []) 0 k (omega (arith, done.as_many)) ∙ done.start k before
-    | inr here ↦ let e : k ≡ h = omega arith in get_or_push starts n 0 k (omega (arith, done.as_many)) ∙ n-is ∙ ap (λ (i : ℕ). length (pairs_of (take i ranks))) (sym e)
-  ]
+  pub add-fits : (rank : List ℕ) → h < length ranks → rank ≡ get_or ranks h [] → sum_by length ranks < 4_000_000_000 → length b.doctors.items + length rank < 4_000_000_000
+  add-fits rank lt rank-is few =
+      omega (arith, count-is, ap length rank-is, few-contracts ranks few, pairs-front ranks (h + 1), ap length (pairs-more ranks h lt), length-append (pairs_of (take h ranks)) (own h (get_or ranks h [])), length-own h (get_or ranks h []))
 
-  pub numbered-more : (doctors' hospitals' starts' : List ℕ) (n m s : ℕ) → h < length ranks → doctors' ≡ doctors ++ get_or ranks h [] → n ≡ length doctors' → m ≡ length hospitals →
-      hospitals' ≡ take n hospitals ++ replicate (n - m) h → s ≡ length doctors → starts' ≡ starts ++ s ∷ [] → AreNumbered ranks (h + 1) doctors' hospitals' starts'
-  numbered-more doctors' hospitals' starts' n m s lt more n-is m-is wide s-is begun =
-      let d : doctors' ≡ owners_of_ranks (take (h + 1) ranks) = rw (more, done.doctor) (sym (doctors-more ranks h lt)) in
-      let long : n ≡ length doctors + length (get_or ranks h []) = omega (arith, n-is, ap length more, length-append doctors (get_or ranks h [])) in
-      let as_long : m ≡ length doctors = omega (arith, m-is, ap length done.hospital, length-map {B = ℕ} (pairs_of (take h ranks)) (λ p. p.1), start-is) in
-      let new : n - m ≡ length (get_or ranks h []) = omega arith in
-      let old : take n hospitals ≡ hospitals = take_all n hospitals (omega (arith, m-is)) in
+  pub numbered-more : (new : ByHospital) (rank : List ℕ) → h < length ranks → rank ≡ get_or ranks h [] → new.doctors.items ≡ b.doctors.items ++ rank →
+      new.hospitals.items ≡ b.hospitals.items ++ replicate (length rank) h → new.starts.items ≡ b.starts.items ++ (length b.doctors.items + length rank) ∷ [] → AreNumbered ranks (h + 1) new
+  numbered-more new rank lt rank-is doctors hospitals starts =
+      let end = length b.doctors.items + length rank in
+      let ended : end ≡ length (pairs_of (take (h + 1) ranks)) =
+      omega (arith, count-is, ap length rank-is, ap length (pairs-more ranks h lt), length-append (pairs_of (take h ranks)) (own h (get_or ranks h [])), length-own h (get_or ranks h [])) in
       record {
-        doctor = d;
-        hospital = rw (wide, old, new, done.hospital) (sym (hospitals-more ranks h lt));
-        as_many = omega (arith, ap length begun, length-append starts (s ∷ []), done.as_many);
-        start = rw begun (start-more s (s-is ∙ start-is));
+        doctor = rw (doctors, done.doctor, rank-is) (sym (doctors-more ranks h lt));
+        hospital = rw (hospitals, done.hospital, rank-is) (sym (hospitals-more ranks h lt));
+        as_many = omega (arith, ap length starts, length-append b.starts.items (end ∷ []), done.as_many);
+        start = λ k le. rw starts (elim (cases_lt k (h + 1)) [
+          | inl before ↦ get_or_append_left b.starts.items (end ∷ []) 0 k (omega (arith, done.as_many)) ∙ done.start k (omega arith)
+          | inr here ↦ let e : k ≡ h + 1 = omega arith in get_or_push b.starts.items end 0 k (omega (arith, done.as_many)) ∙ ended ∙ ap (λ (i : ℕ). length (pairs_of (take i ranks))) (sym e)
+        ]);
       }
 
-  pub numbered-all : sum_by length ranks < 4_000_000_000 → length ranks ≤ h → h ≤ length ranks → AreContracts ranks doctors hospitals starts
-  numbered-all few end le =
-      let all : take h ranks ≡ ranks = take_all h ranks end in
+  pub numbered-few : sum_by length ranks < 4_000_000_000 → length b.doctors.items < 4_000_000_000
+  numbered-few few = omega (arith, count-is, pairs-front ranks h, few-contracts ranks few)
+
+  pub numbered-all : (by_doctor : ByDoctor) → sum_by length ranks < 4_000_000_000 → length ranks < 2 ^ 32 → length ranks ≡ h →
+      AreByDoctor b.doctors.items by_doctor.starts.items by_doctor.contracts.items → AreContracts ranks b by_doctor
+  numbered-all by_doctor few few-hospitals end index =
+      let all : take h ranks ≡ ranks = take_all h ranks (omega arith) in
       record {
         few = few-contracts ranks few;
+        few_hospitals = few-hospitals;
         doctor = rw all at done.doctor;
         hospital = rw all at done.hospital;
         as_many = omega (arith, done.as_many);
-        start = λ k lt. done.start k (omega arith);
+        start = λ k le. done.start k (omega arith);
+        own = index;
       }
+
+-- the spans of the hospitals give the rank lists
+pub lists-are : (ranks : List (List ℕ)) (b : ByHospital) (by_doctor : ByDoctor) → AreContracts ranks b by_doctor → rank_lists b ≡ ranks
+lists-are ranks b by_doctor are =
+    let starts = b.starts.items in
+    let lists = λ (h : ℕ). slice_range b.doctors.items (get_or starts h 0) (get_or starts (h + 1) 0) in
+    let long : length (below (length starts - 1)) ≡ length ranks = omega (arith, length-below (length starts - 1), are.as_many) in
+    ext_get_or [] (rank_lists b) ranks (length-map (below (length starts - 1)) lists ∙ long) (λ h less.
+    let lt : h < length ranks = omega (arith, long, length-map (below (length starts - 1)) lists) in
+    get_or-map lists (below (length starts - 1)) h 0 [] (omega (arith, long))
+    ∙ ap lists (get_or-below (length starts - 1) h 0 (omega (arith, are.as_many)))
+    ∙ ap (λ (ds : List ℕ). slice_range ds (get_or starts h 0) (get_or starts (h + 1) 0)) are.doctor
+    ∙ rank-is ranks h (get_or starts h 0) (get_or starts (h + 1) 0) lt (are.start h (omega arith)) (are.start (h + 1) (omega arith)))
+
+-- ---- what is kept answers
+
+module _ (ranks : List (List ℕ)) (b : ByHospital) (by_doctor : ByDoctor) (are : AreContracts ranks b by_doctor) where
+  count-are : length b.doctors.items ≡ length (pairs_of ranks)
+  count-are = ap length are.doctor ∙ length-map {B = ℕ} (pairs_of ranks) (λ p. p.0)
+
+  pub starts-forward : (h start end : ℕ) → h < length ranks → start ≡ length (pairs_of (take h ranks)) → end ≡ length (pairs_of (take (h + 1) ranks)) → start ≤ end
+  starts-forward h start end lt start-is end-is =
+      omega (arith, start-is, end-is, ap length (pairs-more ranks h lt), length-append (pairs_of (take h ranks)) (own h (get_or ranks h [])))
+
+  pub starts-inside : (h end : ℕ) → end ≡ length (pairs_of (take h ranks)) → end ≤ length b.doctors.items
+  starts-inside h end end-is = omega (arith, end-is, pairs-front ranks h, count-are)
+
+  pub rank-read : (h start end : ℕ) → h < length ranks → start ≡ length (pairs_of (take h ranks)) → end ≡ length (pairs_of (take (h + 1) ranks)) → slice_range b.doctors.items start end ≡ get_or ranks h []
+  rank-read h start end lt start-is end-is = ap (λ (ds : List ℕ). slice_range ds start end) are.doctor ∙ rank-is ranks h start end lt start-is end-is
+
+  pub hospital-below : (x h : ℕ) → x < length (pairs_of ranks) → h ≡ get_or b.hospitals.items x h → h < length ranks
+  hospital-below x h lt read =
+      let e : h ≡ (get_or (pairs_of ranks) x (0, 0)).1 = (rw are.hospital at read) ∙ get_or-map (λ (p : ℕ × ℕ). p.1) (pairs_of ranks) x (0, 0) h lt in
+      omega (arith, e, (pair_in 0 ranks x lt).1)
+
+  pub own-forward : (d start end : ℕ) → d + 1 < length by_doctor.starts.items → start ≡ get_or by_doctor.starts.items d 0 → end ≡ get_or by_doctor.starts.items (d + 1) 0 → start ≤ end
+  own-forward d start end lt start-is end-is = omega (arith, start-is, end-is, starts-rise b.doctors.items by_doctor.starts.items are.own.begin d (d + 1) (omega arith) lt)
+
+  pub own-inside : (d end : ℕ) → d < length by_doctor.starts.items → end ≡ get_or by_doctor.starts.items d 0 → end ≤ length by_doctor.contracts.items
+  own-inside d end lt end-is = omega (arith, end-is, starts-within b.doctors.items by_doctor.starts.items are.own.begin d lt, are.own.long)
+
+  pub own-read : (d start end : ℕ) → d + 1 < length by_doctor.starts.items → start ≡ get_or by_doctor.starts.items d 0 → end ≡ get_or by_doctor.starts.items (d + 1) 0 →
+      slice_range by_doctor.contracts.items start end ≡ contracts_of_doctor (owners_of_ranks ranks) d
+  own-read d start end lt start-is end-is = rw (start-is, end-is, ← are.doctor) (are.own.own d lt)
+
+  pub none-own : (d : ℕ) → length by_doctor.starts.items ≤ d + 1 → [] ≡ contracts_of_doctor (owners_of_ranks ranks) d
+  none-own d past = rw (← are.doctor) (sym (no-contracts b.doctors.items by_doctor.starts.items are.own.begin d past))
 
 pub rank-fits : (ranks : List (List ℕ)) (h : ℕ) → h < length ranks → length (pairs_of ranks) < 4_000_000_000 → length (get_or ranks h []) < 4_000_000_000
 rank-fits ranks h lt few =
     omega (arith, pairs-front ranks (h + 1), ap length (pairs-more ranks h lt), length-append (pairs_of (take h ranks)) (own h (get_or ranks h [])), length-own h (get_or ranks h []))
 
-pub hospital-below : (ranks : List (List ℕ)) (hospitals : List ℕ) (x h : ℕ) → hospitals ≡ map (λ p. p.1) (pairs_of ranks) → x < length (pairs_of ranks) → h ≡ get_or hospitals x h → h < length ranks
-hospital-below ranks hospitals x h are lt read =
-    let e : h ≡ (get_or (pairs_of ranks) x (0, 0)).1 = (rw are at read) ∙ get_or-map (λ (p : ℕ × ℕ). p.1) (pairs_of ranks) x (0, 0) h lt in
-    omega (arith, e, (pair_in 0 ranks x lt).1)
+pub number-fits : (ranks : List (List ℕ)) (h place start : ℕ) → h < length ranks → place < length (get_or ranks h []) → start ≡ length (pairs_of (take h ranks)) → length (pairs_of ranks) < 4_000_000_000 → start + place < 2 ^ 32
+number-fits ranks h place start lt within start-is few = omega (arith, start-is, number-within ranks h place lt within, few)

@@ -13,7 +13,7 @@ abbrev pub board_of : List (List ℕ) → TreeOf → List (List ℤ) → List �
 board_of ranks tree steps ties = hospital_board ranks (λ h. get_or steps h []) (group_nodes tree.groups (drop tree.hospitals steps)) ties
 
 -- one rank list for each hospital, steps for each node, a tie order and the place of each contract there
-pub record IsKept (ranks : List (List ℕ)) (tree : TreeOf) (steps : List (List ℤ)) (ties places : List ℕ) : Type 0 where
+pub record IsBoardKept (ranks : List (List ℕ)) (tree : TreeOf) (steps : List (List ℤ)) (ties places : List ℕ) : Type 0 where
   pub hospitals : length ranks ≡ tree.hospitals
   pub nodes : length steps ≡ length (sets_of_tree tree)
   pub order : IsTieOrder ranks ties
@@ -21,7 +21,7 @@ pub record IsKept (ranks : List (List ℕ)) (tree : TreeOf) (steps : List (List 
   pub place : (x : ℕ) → x < length (pairs_of ranks) → position (λ y. y == x) ties ≡ Some (get_or places x 0)
 
 -- the board with ties by the rule, or the first fault of the rule
-abbrev pub Builds : List (List ℕ) → TreeOf → List (List ℤ) → TieRule → Result Board BoardFault → Type 0
-Builds ranks tree steps rule (Ok board) = (fault_of ranks rule ≡ None) × (board ≡ board_of ranks tree steps (order_of ranks rule)) × IsTieOrder ranks board.ties
-Builds ranks tree steps rule (Err fault.NoMemory) = Unit {0}
-Builds ranks tree steps rule (Err e) = fault_of ranks rule ≡ Some e
+abbrev pub BuildsBoard : List (List ℕ) → TreeOf → List (List ℤ) → TieRule → Result Board BoardFault → Type 0
+BuildsBoard ranks tree steps rule (Ok board) = (fault_of ranks rule ≡ None) × (board ≡ board_of ranks tree steps (order_of ranks rule)) × IsTieOrder ranks board.ties
+BuildsBoard ranks tree steps rule (Err fault.NoMemory) = Unit {0}
+BuildsBoard ranks tree steps rule (Err e) = fault_of ranks rule ≡ Some e

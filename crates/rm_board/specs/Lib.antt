@@ -1,5 +1,5 @@
 pub mod Numbers
-pub mod Listed
+pub mod ByDoctor
 pub mod ListedElements
 pub mod Rules
 pub mod Boards

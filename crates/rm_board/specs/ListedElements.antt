@@ -1,8 +1,8 @@
 -- A listed tie order, read element by element.
-use Rattle.std.specs.Prelude.{◌≡◌, ℕ, zero, suc, ◌+◌, ◌<◌, nat_lt, List, length, get_or, filter_map, position, Option, Some, None, IfSome, Result, Ok, Err, Vec}
+use Rattle.std.specs.Prelude.{◌≡◌, ◌==◌, ℕ, zero, suc, ◌+◌, ◌<◌, nat_lt, List, length, get_or, filter_map, position, Option, Some, None, IfSome, Result, Ok, Err, Vec}
 use Rattle.std.specs.declared.alloc.Global.{Global}
-use Rattle.std.specs.List.{list_any}
-use Rattle.rm_sets.specs.Sets.{has, IsIn, IsOnce}
+use Rattle.std.specs.List.{IsDistinct, list_any}
+use Rattle.rm_sets.specs.Sets.{has, IsIn}
 use Rattle.rm_base.specs.declared.ListedPair.{ListedPair}
 use Rattle.rm_market.specs.Board.{pairs_of, hospital_of_number}
 use Rattle.rm_market.specs.Ties.{listed_fault, listed_order, contract_of_pair, is_named_by, is_ranked_below, last_at_hospital_of}
@@ -32,7 +32,7 @@ pub record IsWide (ranks : List (List ℕ)) (named last greatest : List ℕ) : T
 pub record IsListing (ranks : List (List ℕ)) (before : List ListedPair) (order named last greatest : List ℕ) : Type 0 where
   pub contracts : order ≡ filter_map (contract_of_pair ranks) before
   pub long : length order ≡ length before
-  pub once : IsOnce order
+  pub once : IsDistinct ◌==◌ order
   pub within : (x : ℕ) → IsIn x order → x < length (pairs_of ranks)
   pub in_order : (x : ℕ) → x < length (pairs_of ranks) → has x order ≡ nat_lt 0 (get_or named x 0)
   pub place : (x : ℕ) → x < length (pairs_of ranks) → position (is_named_by ranks x) before ≡ place_of_number (get_or named x 0)

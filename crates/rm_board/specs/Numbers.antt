@@ -1,14 +1,25 @@
 -- The numbering of the contracts of rank lists.
-use Rattle.std.specs.Prelude.{◌≡◌, ℕ, ◌+◌, ◌<◌, nat_lt, Bool, List, [], map, length, take, get_or}
+use Rattle.std.specs.Prelude.{◌≡◌, ℕ, ◌+◌, ◌-◌, ◌<◌, ◌≤◌, ◌^◌, nat_lt, Bool, List, [], map, length, take, get_or, slice_range}
+use Rattle.rm_sets.specs.Sets.{below}
 use Rattle.rm_market.specs.Board.{pairs_of, owners_of_ranks}
+use Rattle.rm_board.specs.ByDoctor.{AreByDoctor}
+use Rattle.rm_board.specs.declared.doctors.ByDoctor.{ByDoctor}
+use Rattle.rm_board.specs.declared.hospitals.ByHospital.{ByHospital}
 
--- of each contract its doctor and its hospital, and of each hospital how many contracts stand before its own
-pub record AreContracts (ranks : List (List ℕ)) (doctors hospitals starts : List ℕ) : Type 0 where
+-- the rank lists: each hospital's are the doctors of its contracts, from its first one up to the next hospital's
+abbrev pub rank_lists : ByHospital → List (List ℕ)
+rank_lists b = map (λ h. slice_range b.doctors.items (get_or b.starts.items h 0) (get_or b.starts.items (h + 1) 0)) (below (length b.starts.items - 1))
+
+-- of each contract its doctor and its hospital; of each hospital, and after the last one, how many contracts stand before its
+-- own; and the contracts by doctor
+pub record AreContracts (ranks : List (List ℕ)) (by_hospital : ByHospital) (by_doctor : ByDoctor) : Type 0 where
   pub few : length (pairs_of ranks) < 4_000_000_000
-  pub doctor : doctors ≡ owners_of_ranks ranks
-  pub hospital : hospitals ≡ map (λ p. p.1) (pairs_of ranks)
-  pub as_many : length starts ≡ length ranks
-  pub start : (h : ℕ) → h < length ranks → get_or starts h 0 ≡ length (pairs_of (take h ranks))
+  pub few_hospitals : length ranks < 2 ^ 32
+  pub doctor : by_hospital.doctors.items ≡ owners_of_ranks ranks
+  pub hospital : by_hospital.hospitals.items ≡ map (λ p. p.1) (pairs_of ranks)
+  pub as_many : length by_hospital.starts.items ≡ length ranks + 1
+  pub start : (h : ℕ) → h ≤ length ranks → get_or by_hospital.starts.items h 0 ≡ length (pairs_of (take h ranks))
+  pub own : AreByDoctor by_hospital.doctors.items by_doctor.starts.items by_doctor.contracts.items
 
 -- the contract at a place of a hospital's rank list
 abbrev pub number_at : List (List ℕ) → ℕ → ℕ → ℕ

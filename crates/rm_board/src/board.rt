@@ -5,7 +5,7 @@ ghost use Rattle.std.specs.List.{sum_by};
 ghost use Rattle.rm_market.specs.Board.{contract_count, contract_of, doctor_of, hospital_of, leaf_of, node_at, owners_of, sets_of};
 ghost use Rattle.rm_market.specs.Market.{listed_of};
 ghost use Rattle.rm_market.specs.Tree.{sets_of_tree};
-ghost use Rattle.rm_board.specs.Boards.{Builds};
+ghost use Rattle.rm_board.specs.Boards.{BuildsBoard};
 ghost use Rattle.rm_board.specs.Rules.{AreKnown};
 
 use crate::contracts::{Contracts, NoMemory};
@@ -31,13 +31,13 @@ pub struct Board {
 
 impl Model for Board {
     ghost use Rattle.rm_market.specs.Board.{Board as MarketBoard};
-    ghost use Rattle.rm_board.specs.Boards.{board_of, IsKept};
+    ghost use Rattle.rm_board.specs.Boards.{board_of, IsBoardKept};
 
     ghost Value = { MarketBoard };
 
     ghost view = { λ b. board_of b.contracts b.tree b.steps.items b.order.items };
 
-    ghost invariant = { λ b. IsKept b.contracts b.tree b.steps.items b.order.items b.places.items };
+    ghost invariant = { λ b. IsBoardKept b.contracts b.tree b.steps.items b.order.items b.places.items };
 }
 
 impl Board {
@@ -55,7 +55,7 @@ impl Board {
         requires steps { length steps.items ≡ length (sets_of_tree tree) }
         requires few { sum_by length ranks.now < 4_000_000_000 }
         requires known { AreKnown (length ranks.now) ties }
-        ensures { Builds ranks.now tree steps.items ties.entry result }
+        ensures { BuildsBoard ranks.now tree steps.items ties.entry result }
     {
         let Ok(contracts) = Contracts::build(alloc, ranks) else {
             return Err(BoardFault::NoMemory);

@@ -1,10 +1,13 @@
 // The numbering of contracts.
 
-ghost use Rattle.std.specs.Prelude.{◌≡◌, ◌<◌, [], length, get_or, IfOk, IfSome};
+ghost use Rattle.std.specs.Prelude.{◌≡◌, ◌<◌, ◌≤◌, [], length, take, get_or, slice_range, IfOk, IfSome};
 ghost use Rattle.std.specs.List.{sum_by};
 ghost use Rattle.rm_market.specs.Board.{pairs_of, number_of, hospital_of_number, doctor_of_number, owners_of_ranks};
+ghost use Rattle.rm_board.specs.ByDoctor.{contracts_of_doctor};
 ghost use Rattle.rm_board.specs.Numbers.{number_at};
 
+use crate::doctors::{ByDoctor, first_within};
+use crate::hospitals::ByHospital;
 use rm_ranks::Lists;
 use std::alloc::{AllocError, Global};
 use std::marker::Model;
@@ -16,43 +19,61 @@ pub type NoMemory = AllocError;
 /// then by place in its rank list; so of two contracts at one hospital, the one of lower number is the better ranked.
 #[derive(Drop)]
 pub struct Contracts {
-    ranks: Lists,
-    doctors: Vec<u32>,
-    hospitals: Vec<u32>,
-    starts: Vec<u32>,
+    by_hospital: ByHospital,
+    by_doctor: ByDoctor,
 }
 
 impl Model for Contracts {
     ghost use Rattle.std.specs.Prelude.{List, ℕ};
-    ghost use Rattle.rm_board.specs.Numbers.{AreContracts};
+    ghost use Rattle.rm_board.specs.Numbers.{AreContracts, rank_lists};
 
     ghost Value = { List (List ℕ) };
 
-    ghost view = { λ c. c.ranks };
+    ghost view = { λ c. rank_lists c.by_hospital };
 
-    ghost invariant = { λ c. AreContracts c.ranks c.doctors.items c.hospitals.items c.starts.items };
+    ghost invariant = { λ c. AreContracts (rank_lists c.by_hospital) c.by_hospital c.by_doctor };
+}
+
+// How many items the lists hold.
+fn items_in(lists: &Lists) -> usize
+    requires { sum_by length lists.now < 4_000_000_000 }
+    ensures { result ≡ sum_by length lists.now }
+{
+    let mut count = 0;
+    for i in 0..lists.len() {
+        count += lists.list(i).len();
+    }
+    count
+}
+
+// The numbers from one place up to another.
+fn between(numbers: &[u32], start: u32, end: u32) -> &[u32]
+    requires forward { start ≤ end }
+    requires within { end ≤ length numbers.now }
+    ensures { result.now ≡ slice_range numbers.now start end }
+{
+    &numbers[start as usize..end as usize]
 }
 
 impl Contracts {
-    /// Numbers the contracts of the hospitals' rank lists, which together hold fewer than 4,000,000,000 doctors.
+    /// Numbers the contracts of the hospitals' rank lists, which together hold fewer than 4,000,000,000 doctors. The memory for
+    /// them is in proportion to the contracts, the hospitals and the greatest doctor that is ranked.
     pub fn build(alloc: Global, ranks: &Lists) -> Result<Contracts, NoMemory>
         requires { sum_by length ranks.now < 4_000_000_000 }
         ensures { IfOk result (λ contracts. contracts ≡ ranks.now) }
     {
-        let mut doctors = Vec::new(alloc);
-        let mut hospitals = Vec::new(alloc);
-        let mut starts = Vec::new(alloc);
+        let mut by_hospital = ByHospital::with_capacity(
+            alloc,
+            ranks.len() as usize,
+            items_in(ranks),
+        )?;
         for h in 0..ranks.len() {
-            let rank = ranks.list(h);
-            starts.push(doctors.len() as u32)?;
-            doctors.extend_from_slice(rank)?;
-            hospitals.resize(doctors.len(), h)?;
+            by_hospital.add(h, ranks.list(h))?;
         }
+        let by_doctor = ByDoctor::build(alloc, &by_hospital.doctors)?;
         Ok(Contracts {
-            ranks: ranks.copy(alloc)?,
-            doctors,
-            hospitals,
-            starts,
+            by_hospital,
+            by_doctor,
         })
     }
 
@@ -61,7 +82,7 @@ impl Contracts {
         ensures count { result ≡ length (pairs_of self.now) }
         ensures few { result < 4_000_000_000 }
     {
-        self.doctors.len() as u32
+        self.by_hospital.doctors.len() as u32
     }
 
     /// The doctor of contract x.
@@ -69,7 +90,7 @@ impl Contracts {
         requires { x < length (pairs_of self.now) }
         ensures { result ≡ doctor_of_number self.now x }
     {
-        self.doctors[x as usize]
+        self.by_hospital.doctors[x as usize]
     }
 
     /// The hospital of contract x.
@@ -78,21 +99,30 @@ impl Contracts {
         ensures hospital { result ≡ hospital_of_number self.now x }
         ensures below { result < length self.now }
     {
-        self.hospitals[x as usize]
+        self.by_hospital.hospitals[x as usize]
     }
 
     /// The doctor of each contract.
     pub fn owners(&self) -> &[u32]
         ensures { result.now ≡ owners_of_ranks self.now }
     {
-        &self.doctors
+        &self.by_hospital.doctors
     }
 
     /// The number of hospitals.
     pub fn hospitals(&self) -> u32
         ensures { result ≡ length self.now }
     {
-        self.ranks.len()
+        (self.by_hospital.starts.len() - 1) as u32
+    }
+
+    // How many contracts stand before those of hospital h, or how many there are where h is the number of hospitals.
+    fn start(&self, h: usize) -> u32
+        requires { h ≤ length self.now }
+        ensures start { result ≡ length (pairs_of (take h self.now)) }
+        ensures few { length (pairs_of self.now) < 4_000_000_000 }
+    {
+        self.by_hospital.starts[h]
     }
 
     /// The rank list of hospital h.
@@ -101,8 +131,9 @@ impl Contracts {
         ensures list { result.now ≡ get_or self.now h [] }
         ensures few { length result.now < 4_000_000_000 }
     {
-        let _ = &self.doctors;
-        self.ranks.list(h)
+        let start = self.start(h as usize);
+        let end = self.start(h as usize + 1);
+        between(&self.by_hospital.doctors, start, end)
     }
 
     // The contract at a place of the rank list of hospital h.
@@ -111,7 +142,20 @@ impl Contracts {
         requires place { place < length (get_or self.now h []) }
         ensures { result ≡ number_at self.now place h }
     {
-        self.starts[h as usize] + place
+        self.start(h as usize) + place
+    }
+
+    // The contracts of doctor d, ascending.
+    fn of_doctor(&self, d: u32) -> &[u32]
+        ensures { result.now ≡ contracts_of_doctor (owners_of_ranks self.now) d }
+    {
+        let d = d as usize;
+        if d + 1 >= self.by_doctor.starts.len() {
+            return &[];
+        }
+        let start = self.by_doctor.starts[d];
+        let end = self.by_doctor.starts[d + 1];
+        between(&self.by_doctor.contracts, start, end)
     }
 
     /// The contract of doctor d and hospital h; None exactly where h doesn't rank d.
@@ -120,9 +164,8 @@ impl Contracts {
         ensures number { result ≡ number_of self.now d h }
         ensures below { IfSome result (λ x. (x < length (pairs_of self.now)) × (x < 4_000_000_000)) }
     {
-        match self.ranks.place(h, d) {
-            Some(place) => Some(self.starts[h as usize] + place),
-            None => None,
-        }
+        let start = self.start(h as usize);
+        let end = self.start(h as usize + 1);
+        first_within(self.of_doctor(d), start, end)
     }
 }

@@ -6,6 +6,8 @@ ghost use Rattle.std.specs.List.{sum_by};
 
 mod board;
 mod contracts;
+mod doctors;
+mod hospitals;
 mod listing;
 mod orders;
 mod ties;

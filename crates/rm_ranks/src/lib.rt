@@ -39,4 +39,15 @@ mod tests {
         );
         Ok(())
     }
+
+    #[test]
+    fn pushes_lists(rt: HostRuntime) -> Result<(), Fail> {
+        let mut lists = Lists::with_capacity(rt.alloc(), 2, 2)?;
+        lists.push(&[3])?;
+        assert_eq!(rt;
+            (lists.len(), lists.list(0), lists.place(0, 3)),
+            (1, [3].as_slice(), Some(0))
+        );
+        Ok(())
+    }
 }

@@ -1,6 +1,6 @@
 // Finished lists.
 
-ghost use Rattle.std.specs.Prelude.{◌≡◌, ◌<◌, ◌==◌, ℕ, List, [], length, get_or, set, All, IfOk};
+ghost use Rattle.std.specs.Prelude.{◌≡◌, ◌<◌, ◌==◌, ℕ, List, [], ◌∷◌, ◌++◌, length, get_or, set, All, IfOk, OnOk, OnErr};
 ghost use Rattle.std.specs.List.{IsDistinct, position};
 ghost use Rattle.rm_ranks.specs.Packed.{IsIndexOf};
 
@@ -29,6 +29,25 @@ impl Model for Lists {
 }
 
 impl Lists {
+    /// No list, with room for so many lists and items.
+    pub fn with_capacity(alloc: Global, lists: u32, items: usize) -> Result<Lists, NoMemory>
+        ensures { IfOk result (λ lists. lists ≡ []) }
+    {
+        Ok(Lists {
+            packed: Packed::with_capacity(alloc, lists as usize, items)?,
+        })
+    }
+
+    /// Adds a list of distinct items as the last. There may be 4,294,967,295 lists. Where memory is wanting, the lists are as before.
+    pub fn push(&mut self, list: &[u32]) -> Result<(), NoMemory>
+        requires few { length self.old < 4_294_967_295 }
+        requires distinct { IsDistinct ◌==◌ list.now }
+        ensures lists { OnOk result (self.new ≡ self.old ++ list.now ∷ []) }
+        ensures unchanged { OnErr result (self.new ≡ self.old) }
+    {
+        self.packed.push(list)
+    }
+
     /// List i, lent from the buffer.
     pub fn list(&self, i: u32) -> &[u32]
         requires { i < length self.now }

@@ -1,6 +1,6 @@
 // Lists of distinct numbers, one after the other in one buffer, each with its items in their order and their places.
 
-ghost use Rattle.std.specs.Prelude.{◌≡◌, ◌+◌, ◌<◌, ◌^◌, ◌==◌, [], ◌∷◌, ◌++◌, length, IfOk, OnOk};
+ghost use Rattle.std.specs.Prelude.{◌≡◌, ◌+◌, ◌<◌, ◌^◌, ◌==◌, [], ◌∷◌, ◌++◌, length, take, IfOk, OnOk, OnErr};
 ghost use Rattle.std.specs.List.{IsDistinct};
 ghost use Rattle.rm_ranks.specs.Packed.{ArePacked, AddsIndex, lists_of};
 
@@ -59,13 +59,34 @@ impl Packed {
         })
     }
 
-    // Adds a list as the last.
+    // Adds a list as the last. Where memory is wanting, nothing is changed.
     pub fn push(&mut self, list: &[u32]) -> Result<(), AllocError>
+        requires packed { ArePacked self.old.items.items self.old.places.items self.old.spans.items }
+        requires distinct { IsDistinct ◌==◌ list.now }
+        requires few { length self.old.spans.items + 1 < 2 ^ 32 }
+        ensures packed { ArePacked self.new.items.items self.new.places.items self.new.spans.items }
+        ensures lists { OnOk result (lists_of self.new.items.items self.new.spans.items ≡ lists_of self.old.items.items self.old.spans.items ++ list.now ∷ []) }
+        ensures unchanged { OnErr result (lists_of self.new.items.items self.new.spans.items ≡ lists_of self.old.items.items self.old.spans.items) }
+    {
+        let end = self.items.len();
+        if self.add(list).is_err() {
+            self.items.truncate(end);
+            self.places.truncate(end);
+            return Err(AllocError);
+        }
+        Ok(())
+    }
+
+    // Adds a list as the last. Where memory is wanting, some of its items may be left at the end of the buffers.
+    fn add(&mut self, list: &[u32]) -> Result<(), AllocError>
         requires packed { ArePacked self.old.items.items self.old.places.items self.old.spans.items }
         requires distinct { IsDistinct ◌==◌ list.now }
         requires few { length self.old.spans.items + 1 < 2 ^ 32 }
         ensures packed { OnOk result (ArePacked self.new.items.items self.new.places.items self.new.spans.items) }
         ensures lists { OnOk result (lists_of self.new.items.items self.new.spans.items ≡ lists_of self.old.items.items self.old.spans.items ++ list.now ∷ []) }
+        ensures items { OnErr result (take (length self.old.items.items) self.new.items.items ≡ self.old.items.items) }
+        ensures places { OnErr result (take (length self.old.items.items) self.new.places.items ≡ self.old.places.items) }
+        ensures spans { OnErr result (self.new.spans.items ≡ self.old.spans.items) }
     {
         let start = self.items.len();
         self.items.extend_from_slice(list)?;
@@ -81,7 +102,8 @@ impl Packed {
 // Adds the items of a list in their order, each with its place.
 fn push_places(places: &mut Vec<(u32, u32)>, list: &[u32]) -> Result<(), AllocError>
     requires { IsDistinct ◌==◌ list.now }
-    ensures { OnOk result (AddsIndex list.now places.old.items places.new.items) }
+    ensures index { OnOk result (AddsIndex list.now places.old.items places.new.items) }
+    ensures front { OnErr result (take (length places.old.items) places.new.items ≡ places.old.items) }
 {
     let start = places.len();
     for place in 0..list.len() {

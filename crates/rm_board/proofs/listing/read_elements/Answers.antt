@@ -1,7 +1,10 @@
 use Rattle.std.proofs.Common.{get_or, refl, arith}
 use Rattle.rm_market.specs.Ties.{contract_of_pair}
-use Rattle.rm_board.proofs.ListedOrders.{no_pair, few-read, one-read, one-bad, all-read, fault-on}
+use Rattle.rm_board.proofs.ListedOrders.{no_pair, none-read, few-read, one-read, one-bad, all-read, fault-on}
 use Rattle.rm_board.proofs.listing.read_elements.Goals as goal
+
+pub loop-i-init : goal.loop-i-init
+loop-i-init c = let e = c.in-Ok.ensures.none in none-read _ _ _ _ _ _ e.0 e.1 e.2 e.3
 
 pub check_element-requires-clause-few : goal.check_element-requires-clause-few
 check_element-requires-clause-few c = omega (arith, few-read _ _ _ _ _ _ _ c.loop-i.invariant, c.no_element.ensures.few)

@@ -1,5 +1,6 @@
-use Rattle.rm_board.proofs.ListedContracts.{AreListed}
+use Rattle.std.proofs.Common.{◌≡◌, take}
+use Rattle.rm_market.specs.Market.{listed_of}
 use Rattle.rm_board.proofs.wishes.listed.Given as goal
 
 abbrev pub invariant-loop-d : goal.invariant-loop-d
-invariant-loop-d l = AreListed l.contracts l.lists l.d l.builder
+invariant-loop-d l = l.listed ≡ listed_of l.contracts (take l.d l.lists)

@@ -1,19 +1,28 @@
-use Rattle.std.proofs.Common.{◌∙◌, ◌<◌, length, ap, arith}
-use Rattle.rm_board.proofs.Numbering.{start-fits, numbered-more, numbered-all}
+use Rattle.std.proofs.Common.{◌<◌, ◌^◌, length, arith}
+use Rattle.rm_board.proofs.Numbering.{add-fits, numbered-more, numbered-all, numbered-few, lists-are}
 use Rattle.rm_board.proofs.contracts.Contracts.build.Goals as goal
 
-pub overflow_cast-len : goal.overflow_cast-len
-overflow_cast-len c = omega (arith, c.len.ensures, c.loop-h.doctors.ok.0, start-fits _ _ _ _ _ c.loop-h.invariant c.requires)
-
-pub loop-h-init : goal.loop-h-init
-loop-h-init c = record { doctor = c.new-doctors.ensures.items; hospital = c.new-hospitals.ensures.items; as_many = ap length c.new-starts.ensures.items; start = λ k lt. absurd (omega arith) }
+pub add-requires-clause-few : goal.add-requires-clause-few
+add-requires-clause-few c = add-fits _ _ _ c.loop-h.invariant c.list.result.now (omega (arith, c.loop-h-test.true, c.len-h-end.ensures.len)) c.list.ensures c.requires
 
 pub loop-h-preserved : goal.loop-h-preserved
 loop-h-preserved c =
-    let lt : c.loop-h.h < length c.args.ranks.now = omega (arith, c.loop-h-test.true, c.len-h-end.ensures.len) in
-    let more = rw c.list-rank.ensures at c.in_ok-extend_from_slice.ensures.items in
-    numbered-more _ _ _ _ _ c.loop-h.invariant _ _ _ c.len-in-loop-h.result c.loop-h.hospitals.len c.len.result lt more (c.len-in-loop-h.ensures ∙ c.extend_from_slice.new.self.ok.0)
-    c.loop-h.hospitals.ok.0 c.in_ok-resize.ensures.items (c.len.ensures ∙ c.loop-h.doctors.ok.0) c.in_ok-push.ensures.items
+    let added = c.in_ok-add.ensures in
+    numbered-more _ _ _ c.loop-h.invariant c.add.new.self c.list.result.now (omega (arith, c.loop-h-test.true, c.len-h-end.ensures.len)) c.list.ensures added.doctors added.hospitals added.starts
+
+pub build-requires : goal.build-requires
+build-requires c = rw c.deref.ensures.value (numbered-few _ _ _ c.loop-h.invariant c.requires)
 
 pub invariant_of-result : goal.invariant_of-result
-invariant_of-result c = rw c.in_ok-copy.ensures (numbered-all _ _ _ _ _ c.loop-h.invariant c.requires (omega (arith, c.len-h-end.ensures.len, c.loop-h-test.false)) (omega (arith, c.len-h-end.ensures.len)))
+invariant_of-result c =
+    let few : length c.args.ranks.now < 2 ^ 32 = omega (arith, c.len-h-end.ensures.len, c.len-h-end.type_inv) in
+    let index = rw c.deref.ensures.value at c.in_ok-by_doctor.ensures in
+    let are = numbered-all _ _ _ c.loop-h.invariant c.in_ok-by_doctor.by_doctor c.requires few (omega (arith, c.loop-h-test.false, c.loop-h.auto.h-end, c.len-h-end.ensures.len)) index in
+    rw (lists-are _ _ _ are) are
+
+pub returns : goal.returns
+returns c =
+    let few : length c.args.ranks.now < 2 ^ 32 = omega (arith, c.len-h-end.ensures.len, c.len-h-end.type_inv) in
+    let index = rw c.deref.ensures.value at c.in_ok-by_doctor.ensures in
+    let are = numbered-all _ _ _ c.loop-h.invariant c.in_ok-by_doctor.by_doctor c.requires few (omega (arith, c.loop-h-test.false, c.loop-h.auto.h-end, c.len-h-end.ensures.len)) index in
+    lists-are _ _ _ are

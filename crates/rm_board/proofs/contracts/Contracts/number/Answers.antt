@@ -1,11 +1,6 @@
-use Rattle.std.proofs.Common.{◌∙◌, arith}
-use Rattle.std.proofs.lemmas.List.{get_or_read}
-use Rattle.rm_board.proofs.Numbering.{number-within}
+use Rattle.std.proofs.Common.{arith}
+use Rattle.rm_board.proofs.Numbering.{number-fits}
 use Rattle.rm_board.proofs.contracts.Contracts.number.Goals as goal
 
 pub overflow_add-result : goal.overflow_add-result
-overflow_add-result c =
-    let lt = rw (← c.self.view_is) at c.requires.hospital in
-    let less = rw (← c.self.view_is) at c.requires.place in
-    let start = get_or_read c.self.inside.starts.items c.args.h c.index.result.now (omega (arith, c.self.invariant.as_many)) c.index.ensures 0 ∙ c.self.invariant.start c.args.h lt in
-    omega (arith, start, c.self.invariant.few, number-within c.self.inside.ranks c.args.h c.args.place lt less)
+overflow_add-result c = omega (arith, number-fits c.args.self.now c.args.h c.args.place c.start.result c.requires.hospital c.requires.place c.start.ensures.start c.start.ensures.few)

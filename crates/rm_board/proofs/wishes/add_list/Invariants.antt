@@ -1,7 +1,0 @@
-use Rattle.std.proofs.Common.{filter_map, take}
-use Rattle.rm_market.specs.Board.{number_of}
-use Rattle.rm_board.proofs.ListedContracts.{AreAdded}
-use Rattle.rm_board.proofs.wishes.add_list.Given as goal
-
-abbrev pub invariant-loop-i : goal.invariant-loop-i
-invariant-loop-i l = AreAdded l.fn.builder l.d (filter_map (number_of l.contracts l.d) (take l.i l.hospitals)) l.builder
