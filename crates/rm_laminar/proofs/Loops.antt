@@ -13,7 +13,7 @@ use Rattle.rm_market.specs.Board.{is_empty, crosses}
 use Rattle.rm_market.specs.Tree.{set_of, tree_sets, put, crossing, group_checks, tree_fault}
 use Rattle.rm_market.specs.declared.TreeFault.{TreeFault}
 use Rattle.rm_market.specs.declared.TreeFault.TheVariants.{Empty, Crossing, Deep, NoMemory}
-use Rattle.rm_laminar.specs.Chains.{IsOrdered, Passes, HasChains, AreChains, AreHospitalGroups, AreChanged, is_larger}
+use Rattle.rm_laminar.specs.Chains.{IsOrdered, PassesChains, HasChains, AreChains, AreHospitalGroups, AreChanged, is_larger}
 use Rattle.rm_laminar.proofs.Laminar.{chain-holds}
 use Rattle.rm_laminar.proofs.Trees.{tree-length, set-hospital, tree-are_sets}
 use Rattle.rm_laminar.proofs.Counts.{one-count, count-push, deep-same}
@@ -214,7 +214,7 @@ pub all-read : (hospitals : ℕ) (groups lists : List (List ℕ)) (b : ℕ) → 
 unfolding tree_fault
 all-read hospitals groups lists b r le = ((through-end group_checks groups 0 b (take b groups) r.through le).0, rw (take_all b groups le) at r.chains)
 
-pub passes-stops : (first whole : Option TreeFault) (hospitals : ℕ) (groups : List (List ℕ)) (f : TreeFault) → ((g : TreeFault) → first ≡ Some g → whole ≡ Some g) → Passes first (Err f) → HasChains whole hospitals groups (Err f)
+pub passes-stops : (first whole : Option TreeFault) (hospitals : ℕ) (groups : List (List ℕ)) (f : TreeFault) → ((g : TreeFault) → first ≡ Some g → whole ≡ Some g) → PassesChains first (Err f) → HasChains whole hospitals groups (Err f)
 passes-stops first whole hospitals groups (Empty b) h e = h (Empty b) e
 passes-stops first whole hospitals groups (Crossing a b x y z) h e = h (Crossing a b x y z) e
 passes-stops first whole hospitals groups (Deep b) h e = h (Deep b) e

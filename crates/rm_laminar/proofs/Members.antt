@@ -8,7 +8,7 @@ use Rattle.rm_sets.specs.Sets.{has, IsSet}
 use Rattle.rm_sets.proofs.Sets.{IsIn-cases, IsSet-tail, IsSet-first, has-append}
 use Rattle.rm_sets.proofs.Members.{not_in_from, IsIn-get_or}
 use Rattle.rm_market.specs.Tree.{set_of, tree_sets}
-use Rattle.rm_laminar.specs.Chains.{lists_of}
+use Rattle.rm_laminar.specs.Chains.{chain_lists}
 use Rattle.rm_laminar.proofs.ListOfLists.{list-at}
 use Rattle.rm_laminar.proofs.Trees.{set-group}
 
@@ -53,7 +53,7 @@ new-member (x ∷ xs) (suc i) set lt =
 
 -- the size of a group's node
 pub size-group : (hospitals : ℕ) (groups : List (Vec ℕ Global)) (node : ℕ) (v : Vec ℕ Global) → hospitals ≤ node → node < hospitals + length groups → v ≡ get_or groups (node - hospitals) v
-    → length v.items ≡ length (set_of (tree_sets hospitals (lists_of groups)) node)
+    → length v.items ≡ length (set_of (tree_sets hospitals (chain_lists groups)) node)
 size-group hospitals groups node v le lt at =
     let place : node ≡ hospitals + (node - hospitals) = omega arith in
-    rw (place, set-group hospitals (lists_of groups) (node - hospitals), list-at groups (node - hospitals) v (omega arith) at) refl
+    rw (place, set-group hospitals (chain_lists groups) (node - hospitals), list-at groups (node - hospitals) v (omega arith) at) refl

@@ -12,8 +12,8 @@ use Rattle.std.proofs.lemmas.List.{map-append}
 use Rattle.std.proofs.lemmas.List.Quantifiers.{position-Some}
 use Rattle.std.proofs.lemmas.List.Elements.{All-map, All-get_or}
 use Rattle.rm_market.specs.Tree.{below, set_of, least, sets_of_tree, tree_sets, chain, parent, depth, TreeOf}
-use Rattle.rm_laminar.specs.Chains.{lists_of, AreChains, AreHospitalGroups}
-use Rattle.rm_laminar.specs.Tree.{groups_in, told, IsKept}
+use Rattle.rm_laminar.specs.Chains.{chain_lists, AreChains, AreHospitalGroups}
+use Rattle.rm_laminar.specs.Tree.{groups_in, told, IsTreeKept}
 use Rattle.rm_laminar.proofs.ListOfLists.{lists-length}
 use Rattle.rm_laminar.proofs.Laminar.{Holds, chain-same, holds-chain}
 use Rattle.rm_laminar.proofs.Firsts.{least-there}
@@ -52,7 +52,7 @@ told-is hospitals nodes groups chains gs c e =
     rw (same, c.each_hospital) refl
 
 pub kept : (hospitals : ℕ) (groups chains : List (List ℕ)) (firsts : List ℕ) → AreHospitalGroups hospitals groups → AreChains hospitals groups chains → firsts ≡ below hospitals ++ map (λ g. slice_index g 0) groups
-    → (told (length firsts) chains ≡ record { hospitals = hospitals; groups = groups }) × IsKept (told (length firsts) chains) chains firsts
+    → (told (length firsts) chains ≡ record { hospitals = hospitals; groups = groups }) × IsTreeKept (told (length firsts) chains) chains firsts
 kept hospitals groups chains firsts gs c is =
     let nodes : length firsts ≡ hospitals + length groups = ap length is ∙ rw (length-append (below hospitals) (map (λ g. slice_index g 0) groups), length-below, length-map) refl in
     let same = told-is hospitals (length firsts) groups chains gs c nodes in (
@@ -79,37 +79,37 @@ kept hospitals groups chains firsts gs c is =
 
 -- ---- what a tree's calls say of what it keeps
 
-pub nodes-count : (t : TreeOf) (chains : List (List ℕ)) (firsts : List ℕ) → IsKept t chains firsts → length firsts ≡ length (sets_of_tree t)
+pub nodes-count : (t : TreeOf) (chains : List (List ℕ)) (firsts : List ℕ) → IsTreeKept t chains firsts → length firsts ≡ length (sets_of_tree t)
 nodes-count t chains firsts k = k.nodes ∙ sym (tree-length t.hospitals t.groups)
 
-pub kept-chain : (t : TreeOf) (chains : List (List ℕ)) (firsts : List ℕ) (h : ℕ) → IsKept t chains firsts → h < t.hospitals → get_or chains h [] ≡ chain (sets_of_tree t) h
+pub kept-chain : (t : TreeOf) (chains : List (List ℕ)) (firsts : List ℕ) (h : ℕ) → IsTreeKept t chains firsts → h < t.hospitals → get_or chains h [] ≡ chain (sets_of_tree t) h
 kept-chain t chains firsts h k lt = chain-same (sets_of_tree t) k.built.laminar h (get_or chains h []) (k.built.chains h lt)
 
 -- the least hospital of a node is one of its own
-pub kept-first : (t : TreeOf) (chains : List (List ℕ)) (firsts : List ℕ) (k : ℕ) → IsKept t chains firsts → k < length (sets_of_tree t) → Holds (sets_of_tree t) (get_or firsts k 0) k × (get_or firsts k 0 < t.hospitals)
+pub kept-first : (t : TreeOf) (chains : List (List ℕ)) (firsts : List ℕ) (k : ℕ) → IsTreeKept t chains firsts → k < length (sets_of_tree t) → Holds (sets_of_tree t) (get_or firsts k 0) k × (get_or firsts k 0 < t.hospitals)
 kept-first t chains firsts k kept lt =
     let count = nodes-count t chains firsts kept in
     let first = kept.firsts_are k (omega (arith, lt, count)) in
     let there = least-there t.hospitals t.groups chains k kept.groups kept.built lt in
     (record { node = lt; has_leaf = rw first there.0 }, rw first there.1)
 
-pub groups-are : (hospitals : ℕ) (groups : List (Vec ℕ Global)) → hospitals ≤ 10000 → length groups ≤ 5000 → All (λ g. IsSetBelow hospitals g.items) groups → AreHospitalGroups hospitals (lists_of groups)
+pub groups-are : (hospitals : ℕ) (groups : List (Vec ℕ Global)) → hospitals ≤ 10000 → length groups ≤ 5000 → All (λ g. IsSetBelow hospitals g.items) groups → AreHospitalGroups hospitals (chain_lists groups)
 groups-are hospitals groups few_h few_g sets = record {
   few_hospitals = few_h;
   few_groups = rw lists-length few_g;
-  sets = λ g lt. All-get_or (IsSetBelow hospitals) (lists_of groups) g [] lt (All-map (IsSetBelow hospitals) (λ (v : Vec ℕ Global). v.items) groups sets);
+  sets = λ g lt. All-get_or (IsSetBelow hospitals) (chain_lists groups) g [] lt (All-map (IsSetBelow hospitals) (λ (v : Vec ℕ Global). v.items) groups sets);
 }
 
 same-depth : (p q : ℕ → ℕ) (n : ℕ) → ((h : ℕ) → h < n → p h ≡ q h) → map p (below n) ≡ map q (below n)
 same-depth p q zero e = refl
 same-depth p q (suc n) e = rw (map-append p (below n) (n ∷ []), map-append q (below n) (n ∷ []), same-depth p q n (λ h lt. e h (omega arith)), e n (omega arith)) refl
 
-pub kept-depth : (t : TreeOf) (chains : List (List ℕ)) (firsts : List ℕ) → IsKept t chains firsts → fold max 0 (map (λ h. length (get_or chains h [])) (below (length chains))) ≡ depth (sets_of_tree t) t.hospitals
+pub kept-depth : (t : TreeOf) (chains : List (List ℕ)) (firsts : List ℕ) → IsTreeKept t chains firsts → fold max 0 (map (λ h. length (get_or chains h [])) (below (length chains))) ≡ depth (sets_of_tree t) t.hospitals
 unfolding depth
 kept-depth t chains firsts k = rw k.built.each_hospital (ap (fold max 0) (same-depth (λ h. length (get_or chains h [])) (λ h. length (chain (sets_of_tree t) h)) t.hospitals (λ h lt. ap length (kept-chain t chains firsts h k lt))))
 
 -- the next node in the chain of a node's least hospital
-pub kept-parent : (t : TreeOf) (chains : List (List ℕ)) (firsts : List ℕ) (k i : ℕ) → IsKept t chains firsts → k < length (sets_of_tree t) → position (λ j. eqb j k) (get_or chains (get_or firsts k 0) []) ≡ Some i
+pub kept-parent : (t : TreeOf) (chains : List (List ℕ)) (firsts : List ℕ) (k i : ℕ) → IsTreeKept t chains firsts → k < length (sets_of_tree t) → position (λ j. eqb j k) (get_or chains (get_or firsts k 0) []) ≡ Some i
     → slice_get (get_or chains (get_or firsts k 0) []) (i + 1) ≡ parent (sets_of_tree t) k
 kept-parent t chains firsts k i kept lt e =
     let first = kept-first t chains firsts k kept lt in
@@ -131,7 +131,7 @@ nowhere xs k i e =
     (λ (le : length xs ≤ position_or_len test xs). both (eqb (get_or xs p.0 0) k) (eq-eqb (get_or xs p.0 0) k p.2) (fails_before_first test xs p.0 0 (let lt = p.1 in omega arith)))
     (cases_lt (position_or_len test xs) (length xs))
 
-pub some-place : (t : TreeOf) (chains : List (List ℕ)) (firsts : List ℕ) (k : ℕ) → IsKept t chains firsts → k < length (sets_of_tree t) → position (λ j. eqb j k) (get_or chains (get_or firsts k 0) []) ≡ None → ⊥
+pub some-place : (t : TreeOf) (chains : List (List ℕ)) (firsts : List ℕ) (k : ℕ) → IsTreeKept t chains firsts → k < length (sets_of_tree t) → position (λ j. eqb j k) (get_or chains (get_or firsts k 0) []) ≡ None → ⊥
 some-place t chains firsts k kept lt e =
     let first = kept-first t chains firsts k kept lt in
     let there = holds-chain (sets_of_tree t) (get_or firsts k 0) k (get_or chains (get_or firsts k 0) []) (kept.built.chains (get_or firsts k 0) first.1) first.0 in
@@ -142,5 +142,8 @@ pub kept-firsts : (hospitals : ℕ) (groups chains : List (List ℕ)) (firsts : 
     → (length firsts ≡ hospitals + length groups) × ((k : ℕ) → k < length firsts → get_or firsts k 0 ≡ least (tree_sets hospitals groups) k)
 kept-firsts hospitals groups chains firsts gs c is =
     let k = kept hospitals groups chains firsts gs c is in
-    let good : IsKept (record { hospitals = hospitals; groups = groups }) chains firsts = rw k.0 at k.1 in
+    let good : IsTreeKept (record { hospitals = hospitals; groups = groups }) chains firsts = rw k.0 at k.1 in
     (good.nodes, good.firsts_are)
+
+pub few-nodes : (t : TreeOf) (chains : List (List ℕ)) (firsts : List ℕ) → IsTreeKept t chains firsts → length (sets_of_tree t) ≤ 15000
+few-nodes t chains firsts k = rw (tree-length t.hospitals t.groups) (omega (arith, k.groups.few_hospitals, k.groups.few_groups))

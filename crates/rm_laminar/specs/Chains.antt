@@ -33,8 +33,8 @@ pub record AreChains (hospitals : ℕ) (groups lists : List (List ℕ)) : Type 0
   pub depths : (h : ℕ) → h < hospitals → length (get_or lists h []) ≡ count_by (has h) groups + 1
 
 -- the lists of vectors
-abbrev pub lists_of : List (Vec ℕ) → List (List ℕ)
-lists_of vectors = map (λ v. v.items) vectors
+abbrev pub chain_lists : List (Vec ℕ) → List (List ℕ)
+chain_lists vectors = map (λ v. v.items) vectors
 
 -- the groups of so many hospitals, each as a set
 pub record AreHospitalGroups (hospitals : ℕ) (groups : List (List ℕ)) : Type 0 where
@@ -52,10 +52,10 @@ abbrev pub is_larger : ℕ → List (List ℕ) → ℕ → ℕ → Bool
 is_larger size sets n k = nat_lt size (length (set_of sets k))
 
 -- the answer to a group with this first fault
-abbrev pub Passes : Option TreeFault → Result (Unit {0}) TreeFault → Type 0
-Passes first (Ok _) = first ≡ None
-Passes first (Err NoMemory) = Unit {0}
-Passes first (Err fault) = first ≡ Some fault
+abbrev pub PassesChains : Option TreeFault → Result (Unit {0}) TreeFault → Type 0
+PassesChains first (Ok _) = first ≡ None
+PassesChains first (Err NoMemory) = Unit {0}
+PassesChains first (Err fault) = first ≡ Some fault
 
 -- the answer to groups with this first fault
 abbrev pub HasChains : Option TreeFault → ℕ → List (List ℕ) → Result (List (List ℕ)) TreeFault → Type 0

@@ -15,17 +15,17 @@ unfoldable pub told : ℕ → List (List ℕ) → TreeOf
 told nodes chains = record { hospitals = length chains; groups = groups_in nodes chains }
 
 -- the chains and the least hospitals of the nodes are those of the tree
-pub record IsKept (t : TreeOf) (chains : List (List ℕ)) (firsts : List ℕ) : Type 0 where
+pub record IsTreeKept (t : TreeOf) (chains : List (List ℕ)) (firsts : List ℕ) : Type 0 where
   pub groups : AreHospitalGroups t.hospitals t.groups
   pub built : AreChains t.hospitals t.groups chains
   pub nodes : length firsts ≡ t.hospitals + length t.groups
   pub firsts_are : (k : ℕ) → k < length firsts → get_or firsts k 0 ≡ least (sets_of_tree t) k
 
 -- the answer to groups with this first fault
-abbrev pub Builds : Option TreeFault → TreeOf → Result TreeOf TreeFault → Type 0
-Builds first tree (Ok built) = (first ≡ None) × (built ≡ tree)
-Builds first tree (Err NoMemory) = Unit {0}
-Builds first tree (Err fault) = first ≡ Some fault
+abbrev pub BuildsTree : Option TreeFault → TreeOf → Result TreeOf TreeFault → Type 0
+BuildsTree first tree (Ok built) = (first ≡ None) × (built ≡ tree)
+BuildsTree first tree (Err NoMemory) = Unit {0}
+BuildsTree first tree (Err fault) = first ≡ Some fault
 
 -- the children of each node
 pub record AreChildren (t : TreeOf) (lists : List (List ℕ)) : Type 0 where

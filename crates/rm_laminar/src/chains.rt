@@ -6,7 +6,7 @@ ghost use Rattle.rm_sets.specs.Sets.{has, IsSet, IsSetBelow, common, minus};
 ghost use Rattle.rm_base.specs.Checks.{first_of};
 ghost use Rattle.rm_market.specs.Board.{crosses};
 ghost use Rattle.rm_market.specs.Tree.{put, tree_sets, set_of, crossing, group_checks, tree_fault};
-ghost use Rattle.rm_laminar.specs.Chains.{lists_of, AreChains, AreHospitalGroups, AreChanged, is_larger, Passes, HasChains};
+ghost use Rattle.rm_laminar.specs.Chains.{chain_lists, AreChains, AreHospitalGroups, AreChanged, is_larger, PassesChains, HasChains};
 
 use crate::lists::Lists;
 use rm_base::codes::{MOST_DEPTH, MOST_GROUPS};
@@ -29,12 +29,12 @@ fn count_chain(shared: &mut [u32], hospitals: u32, chain: &[u32])
 
 // Counts, for each earlier group, the members of a group that it has.
 fn count_shared(shared: &mut [u32], chains: &Lists, earlier: &[Vec<u32>], group: &[u32])
-    requires chains { AreChains (length chains.now) (lists_of earlier.now) chains.now }
-    requires groups { AreHospitalGroups (length chains.now) (lists_of earlier.now) }
+    requires chains { AreChains (length chains.now) (chain_lists earlier.now) chains.now }
+    requires groups { AreHospitalGroups (length chains.now) (chain_lists earlier.now) }
     requires group { IsSetBelow (length chains.now) group.now }
     requires len { length shared.old ≡ length earlier.now }
     requires none { (a : ℕ) → a < length earlier.now → slice_index shared.old a ≡ 0 }
-    ensures { (a : ℕ) → a < length earlier.now → slice_index shared.new a ≡ count_by (λ h. has h (get_or (lists_of earlier.now) a [])) group.now }
+    ensures { (a : ℕ) → a < length earlier.now → slice_index shared.new a ≡ count_by (λ h. has h (get_or (chain_lists earlier.now) a [])) group.now }
 {
     let hospitals = chains.len() as u32;
     for i in 0..group.len() {
@@ -49,11 +49,11 @@ fn shared_with(
     earlier: &[Vec<u32>],
     group: &[u32],
 ) -> Result<Vec<u32>, AllocError>
-    requires chains { AreChains (length chains.now) (lists_of earlier.now) chains.now }
-    requires groups { AreHospitalGroups (length chains.now) (lists_of earlier.now) }
+    requires chains { AreChains (length chains.now) (chain_lists earlier.now) chains.now }
+    requires groups { AreHospitalGroups (length chains.now) (chain_lists earlier.now) }
     requires group { IsSetBelow (length chains.now) group.now }
     ensures len { IfOk result (λ v. length v.items ≡ length earlier.now) }
-    ensures counts { IfOk result (λ v. (a : ℕ) → a < length earlier.now → slice_index v.items a ≡ count_by (λ h. has h (get_or (lists_of earlier.now) a [])) group.now) }
+    ensures counts { IfOk result (λ v. (a : ℕ) → a < length earlier.now → slice_index v.items a ≡ count_by (λ h. has h (get_or (chain_lists earlier.now) a [])) group.now) }
 {
     let mut shared = vec![in alloc; 0; earlier.len()]?;
     count_shared(&mut shared, chains, earlier, group);
@@ -79,10 +79,10 @@ fn is_crossing(shared: u32, a: &[u32], b: &[u32]) -> bool
 fn first_crossing(shared: &[u32], earlier: &[Vec<u32>], group: &[u32]) -> Option<u32>
     requires few { length earlier.now ≤ MOST_GROUPS }
     requires len { length shared.now ≡ length earlier.now }
-    requires sets { (a : ℕ) → a < length earlier.now → IsSet (get_or (lists_of earlier.now) a []) }
+    requires sets { (a : ℕ) → a < length earlier.now → IsSet (get_or (chain_lists earlier.now) a []) }
     requires group { IsSet group.now }
-    requires counts { (a : ℕ) → a < length earlier.now → slice_index shared.now a ≡ count_by (λ h. has h (get_or (lists_of earlier.now) a [])) group.now }
-    ensures first { result ≡ position (λ a. crosses a group.now) (lists_of earlier.now) }
+    requires counts { (a : ℕ) → a < length earlier.now → slice_index shared.now a ≡ count_by (λ h. has h (get_or (chain_lists earlier.now) a [])) group.now }
+    ensures first { result ≡ position (λ a. crosses a group.now) (chain_lists earlier.now) }
     ensures within { IfSome result (λ a. a < length earlier.now) }
 {
     for a in 0..earlier.len() {
@@ -157,10 +157,10 @@ fn check_group(
     earlier: &[Vec<u32>],
     group: &[u32],
 ) -> Result<(), TreeFault>
-    requires chains { AreChains (length chains.now) (lists_of earlier.now) chains.now }
-    requires groups { AreHospitalGroups (length chains.now) (lists_of earlier.now) }
+    requires chains { AreChains (length chains.now) (chain_lists earlier.now) chains.now }
+    requires groups { AreHospitalGroups (length chains.now) (chain_lists earlier.now) }
     requires group { IsSetBelow (length chains.now) group.now }
-    ensures { Passes (first_of (group_checks (lists_of earlier.now) group.now)) result }
+    ensures { PassesChains (first_of (group_checks (chain_lists earlier.now) group.now)) result }
 {
     let b = earlier.len() as u32;
     if group.is_empty() {
@@ -181,7 +181,7 @@ fn check_group(
 // The number of hospitals of a node.
 fn size_of(hospitals: u32, groups: &[Vec<u32>], node: u32) -> usize
     requires { node < hospitals + length groups.now }
-    ensures { result ≡ length (set_of (tree_sets hospitals (lists_of groups.now)) node) }
+    ensures { result ≡ length (set_of (tree_sets hospitals (chain_lists groups.now)) node) }
 {
     if node < hospitals {
         return 1;
@@ -192,7 +192,7 @@ fn size_of(hospitals: u32, groups: &[Vec<u32>], node: u32) -> usize
 // How many nodes of a chain come before the first that is larger than a group.
 fn place_in(chain: &[u32], size: usize, hospitals: u32, groups: &[Vec<u32>]) -> usize
     requires { All (λ k. k < hospitals + length groups.now) chain.now }
-    ensures place { result ≡ prefix_len (λ k. not (is_larger size (tree_sets hospitals (lists_of groups.now)) hospitals k)) chain.now }
+    ensures place { result ≡ prefix_len (λ k. not (is_larger size (tree_sets hospitals (chain_lists groups.now)) hospitals k)) chain.now }
     ensures within { result ≤ length chain.now }
 {
     for i in 0..chain.len() {
@@ -205,10 +205,10 @@ fn place_in(chain: &[u32], size: usize, hospitals: u32, groups: &[Vec<u32>]) -> 
 
 // Puts a group into the chains of its hospitals.
 fn insert_group(chains: &mut Lists, earlier: &[Vec<u32>], group: &[u32]) -> Result<(), AllocError>
-    requires chains { AreChains (length chains.old) (lists_of earlier.now) chains.old }
-    requires groups { AreHospitalGroups (length chains.old) (lists_of earlier.now) }
+    requires chains { AreChains (length chains.old) (chain_lists earlier.now) chains.old }
+    requires groups { AreHospitalGroups (length chains.old) (chain_lists earlier.now) }
     requires group { IsSetBelow (length chains.old) group.now }
-    ensures { OnOk result (AreChanged (put (is_larger (length group.now) (tree_sets (length chains.old) (lists_of earlier.now))) (length chains.old + length earlier.now)) chains.old chains.new group.now) }
+    ensures { OnOk result (AreChanged (put (is_larger (length group.now) (tree_sets (length chains.old) (chain_lists earlier.now))) (length chains.old + length earlier.now)) chains.old chains.new group.now) }
 {
     let hospitals = chains.len() as u32;
     let node = hospitals + earlier.len() as u32;
@@ -233,8 +233,8 @@ fn own_chains(alloc: Global, hospitals: u32) -> Result<Lists, AllocError>
 
 /// The chain of nodes of each hospital, or the first fault of the groups.
 pub fn chains_of(alloc: Global, hospitals: u32, groups: &[Vec<u32>]) -> Result<Lists, TreeFault>
-    requires { AreHospitalGroups hospitals (lists_of groups.now) }
-    ensures { HasChains (tree_fault (lists_of groups.now)) hospitals (lists_of groups.now) result }
+    requires { AreHospitalGroups hospitals (chain_lists groups.now) }
+    ensures { HasChains (tree_fault (chain_lists groups.now)) hospitals (chain_lists groups.now) result }
 {
     let Ok(mut chains) = own_chains(alloc, hospitals) else {
         return Err(TreeFault::NoMemory);

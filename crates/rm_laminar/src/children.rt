@@ -2,7 +2,7 @@
 
 ghost use Rattle.std.specs.Prelude.{◌≡◌, ◌+◌, ◌<◌, ◌≤◌, ℕ, List, [], length, get_or, slice_index, IfOk};
 ghost use Rattle.rm_market.specs.Tree.{tree_sets, least};
-ghost use Rattle.rm_laminar.specs.Chains.{lists_of, AreChains, AreHospitalGroups};
+ghost use Rattle.rm_laminar.specs.Chains.{chain_lists, AreChains, AreHospitalGroups};
 ghost use Rattle.rm_laminar.specs.Tree.{AreChildren};
 
 use crate::lists::Lists;
@@ -16,11 +16,11 @@ pub fn children_of(
     groups: &[Vec<u32>],
     firsts: &[u32],
 ) -> Result<Lists, AllocError>
-    requires chains { AreChains (length chains.now) (lists_of groups.now) chains.now }
-    requires groups { AreHospitalGroups (length chains.now) (lists_of groups.now) }
+    requires chains { AreChains (length chains.now) (chain_lists groups.now) chains.now }
+    requires groups { AreHospitalGroups (length chains.now) (chain_lists groups.now) }
     requires nodes { length firsts.now ≡ length chains.now + length groups.now }
-    requires firsts { (k : ℕ) → k < length firsts.now → slice_index firsts.now k ≡ least (tree_sets (length chains.now) (lists_of groups.now)) k }
-    ensures { IfOk result (λ l. AreChildren (record { hospitals = length chains.now; groups = lists_of groups.now }) l) }
+    requires firsts { (k : ℕ) → k < length firsts.now → slice_index firsts.now k ≡ least (tree_sets (length chains.now) (chain_lists groups.now)) k }
+    ensures { IfOk result (λ l. AreChildren (record { hospitals = length chains.now; groups = chain_lists groups.now }) l) }
 {
     let mut children = Lists::empty(alloc, (chains.len() + groups.len()) as u32)?;
     for h in 0..chains.len() {

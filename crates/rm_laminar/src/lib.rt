@@ -4,12 +4,13 @@
 ghost use Rattle.std.specs.Prelude.{◌≡◌, ◌+◌, ◌<◌, ◌≤◌, ℕ, List, [], ◌∷◌, ◌++◌, length, map, get_or, slice_index, All, IfOk, fold, max, position, slice_get, ◌==◌};
 ghost use Rattle.rm_sets.specs.Sets.{IsSetBelow};
 ghost use Rattle.rm_market.specs.Tree.{below, tree_fault, sets_of_tree, chain, children, members, parent, depth};
-ghost use Rattle.rm_laminar.specs.Chains.{lists_of, AreChains, AreHospitalGroups};
-ghost use Rattle.rm_laminar.specs.Tree.{IsKept, Builds};
+ghost use Rattle.rm_laminar.specs.Chains.{chain_lists, AreChains, AreHospitalGroups};
+ghost use Rattle.rm_laminar.specs.Tree.{told, IsTreeKept, AreChildren, AreMembers, BuildsTree};
 
 use crate::chains::chains_of;
 use crate::children::children_of;
 use crate::lists::Lists;
+use crate::packed::PackedLists;
 use crate::walk::members_of;
 use rm_base::codes::{MOST_DEPTH, MOST_GROUPS, MOST_HOSPITALS};
 pub use rm_market::TreeFault;
@@ -19,33 +20,34 @@ use std::marker::Model;
 mod chains;
 mod children;
 mod lists;
+mod packed;
 mod walk;
 
 /// The tree of hospitals and groups: of two nodes one contains the other, or they share no hospital. Node h is the
 /// hospital h alone, and node `hospitals + g` is the group g. Of two equal sets the later declared one is outside.
 #[derive(Drop)]
 pub struct Tree {
-    chains: Lists,
+    chains: PackedLists,
     firsts: Vec<u32>,
-    children: Lists,
-    members: Lists,
+    children: PackedLists,
+    members: PackedLists,
 }
 
 impl Model for Tree {
     ghost use Rattle.std.specs.Prelude.{length};
     ghost use Rattle.rm_market.specs.Tree.{TreeOf};
-    ghost use Rattle.rm_laminar.specs.Tree.{told, IsKept, AreChildren, AreMembers};
+    ghost use Rattle.rm_laminar.specs.Tree.{told, IsTreeKept, AreChildren, AreMembers};
 
     ghost Value = { TreeOf };
 
     ghost view = { λ t. told (length t.firsts.items) t.chains };
 
-    ghost invariant = { λ t. IsKept (told (length t.firsts.items) t.chains) t.chains t.firsts.items × AreChildren (told (length t.firsts.items) t.chains) t.children × AreMembers (told (length t.firsts.items) t.chains) t.members };
+    ghost invariant = { λ t. IsTreeKept (told (length t.firsts.items) t.chains) t.chains t.firsts.items × AreChildren (told (length t.firsts.items) t.chains) t.children × AreMembers (told (length t.firsts.items) t.chains) t.members };
 }
 
 // The least hospital of each node.
 fn firsts_of(alloc: Global, hospitals: u32, groups: &[Vec<u32>]) -> Result<Vec<u32>, AllocError>
-    ensures { IfOk result (λ v. v.items ≡ below hospitals ++ map (λ g. slice_index g 0) (lists_of groups.now)) }
+    ensures { IfOk result (λ v. v.items ≡ below hospitals ++ map (λ g. slice_index g 0) (chain_lists groups.now)) }
 {
     let mut firsts = Vec::new(alloc);
     for h in 0..hospitals {
@@ -73,7 +75,7 @@ fn item(chain: &[u32], place: usize) -> Option<u32>
 }
 
 // The greatest length of a chain.
-fn depth_of(chains: &Lists) -> u32
+fn depth_of(chains: &PackedLists) -> u32
     requires few { length chains.now ≤ MOST_HOSPITALS }
     requires shallow { (h : ℕ) → h < length chains.now → length (get_or chains.now h []) ≤ MOST_DEPTH }
     ensures { result ≡ fold max 0 (map (λ h. length (get_or chains.now h [])) (below (length chains.now))) }
@@ -83,6 +85,27 @@ fn depth_of(chains: &Lists) -> u32
         depth = depth.max(chains.list(h as u32).len() as u32);
     }
     depth
+}
+
+// The tree of these lists, which it keeps packed.
+fn packed_tree(
+    alloc: Global,
+    chains: &Lists,
+    firsts: Vec<u32>,
+    children: &Lists,
+    members: &Lists,
+) -> Result<Tree, AllocError>
+    requires kept { IsTreeKept (told (length firsts.items) chains.now) chains.now firsts.items }
+    requires children { AreChildren (told (length firsts.items) chains.now) children.now }
+    requires members { AreMembers (told (length firsts.items) chains.now) members.now }
+    ensures { IfOk result (λ t. t ≡ told (length firsts.items) chains.now) }
+{
+    Ok(Tree {
+        chains: PackedLists::packed(alloc, chains)?,
+        firsts,
+        children: PackedLists::packed(alloc, children)?,
+        members: PackedLists::packed(alloc, members)?,
+    })
 }
 
 impl Tree {
@@ -96,7 +119,7 @@ impl Tree {
         requires few_hospitals { hospitals ≤ MOST_HOSPITALS }
         requires few_groups { length groups.now ≤ MOST_GROUPS }
         requires sets { All (λ g. IsSetBelow hospitals g.items) groups.now }
-        ensures { Builds (tree_fault (lists_of groups.now)) (record { hospitals = hospitals; groups = lists_of groups.now }) result }
+        ensures { BuildsTree (tree_fault (chain_lists groups.now)) (record { hospitals = hospitals; groups = chain_lists groups.now }) result }
     {
         let chains = chains_of(alloc, hospitals, groups)?;
         let Ok(firsts) = firsts_of(alloc, hospitals, groups) else {
@@ -108,12 +131,10 @@ impl Tree {
         let Ok(members) = members_of(alloc, &chains, groups, &firsts) else {
             return Err(TreeFault::NoMemory);
         };
-        Ok(Tree {
-            chains,
-            firsts,
-            children,
-            members,
-        })
+        let Ok(tree) = packed_tree(alloc, &chains, firsts, &children, &members) else {
+            return Err(TreeFault::NoMemory);
+        };
+        Ok(tree)
     }
 
     /// The number of nodes.

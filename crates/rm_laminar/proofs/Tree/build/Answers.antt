@@ -1,5 +1,5 @@
-use Rattle.std.proofs.Common.{refl}
-use Rattle.rm_laminar.specs.Chains.{lists_of}
+use Rattle.std.proofs.Common.{◌∙◌, refl}
+use Rattle.rm_laminar.specs.Chains.{chain_lists}
 use Rattle.rm_laminar.proofs.ListOfLists.{lists-length}
 use Rattle.rm_laminar.proofs.Told.{kept, kept-firsts, groups-are}
 use Rattle.rm_laminar.proofs.Tree.build.Goals as goal
@@ -18,13 +18,13 @@ children_of-requires-clause-groups c = rw c.in_ok-chains.ensures.1.each_hospital
 pub children_of-requires-clause-nodes : goal.children_of-requires-clause-nodes
 children_of-requires-clause-nodes c =
     let built = c.in_ok-chains.ensures.1 in
-    let first = kept-firsts c.args.hospitals (lists_of c.args.groups.now) c.in_ok-chains.chains c.in-Ok.firsts.items (groups-are c.args.hospitals c.args.groups.now c.requires.few_hospitals c.requires.few_groups c.requires.sets) built c.in-Ok.ensures in
+    let first = kept-firsts c.args.hospitals (chain_lists c.args.groups.now) c.in_ok-chains.chains c.in-Ok.firsts.items (groups-are c.args.hospitals c.args.groups.now c.requires.few_hospitals c.requires.few_groups c.requires.sets) built c.in-Ok.ensures in
     rw (c.deref.ensures.value, built.each_hospital, first.0, lists-length) refl
 
 pub children_of-requires-clause-firsts : goal.children_of-requires-clause-firsts
 children_of-requires-clause-firsts c =
     let built = c.in_ok-chains.ensures.1 in
-    let first = kept-firsts c.args.hospitals (lists_of c.args.groups.now) c.in_ok-chains.chains c.in-Ok.firsts.items (groups-are c.args.hospitals c.args.groups.now c.requires.few_hospitals c.requires.few_groups c.requires.sets) built c.in-Ok.ensures in
+    let first = kept-firsts c.args.hospitals (chain_lists c.args.groups.now) c.in_ok-chains.chains c.in-Ok.firsts.items (groups-are c.args.hospitals c.args.groups.now c.requires.few_hospitals c.requires.few_groups c.requires.sets) built c.in-Ok.ensures in
     rw (c.deref.ensures.value, built.each_hospital) first.1
 
 pub members_of-requires-clause-chains : goal.members_of-requires-clause-chains
@@ -38,24 +38,34 @@ members_of-requires-clause-groups c = rw c.in_ok-chains.ensures.1.each_hospital 
 pub members_of-requires-clause-nodes : goal.members_of-requires-clause-nodes
 members_of-requires-clause-nodes c =
     let built = c.in_ok-chains.ensures.1 in
-    let first = kept-firsts c.args.hospitals (lists_of c.args.groups.now) c.in_ok-chains.chains c.in-Ok.firsts.items (groups-are c.args.hospitals c.args.groups.now c.requires.few_hospitals c.requires.few_groups c.requires.sets) built c.in-Ok.ensures in
+    let first = kept-firsts c.args.hospitals (chain_lists c.args.groups.now) c.in_ok-chains.chains c.in-Ok.firsts.items (groups-are c.args.hospitals c.args.groups.now c.requires.few_hospitals c.requires.few_groups c.requires.sets) built c.in-Ok.ensures in
     rw (c.deref-2.ensures.value, built.each_hospital, first.0, lists-length) refl
 
 pub members_of-requires-clause-firsts : goal.members_of-requires-clause-firsts
 members_of-requires-clause-firsts c =
     let built = c.in_ok-chains.ensures.1 in
-    let first = kept-firsts c.args.hospitals (lists_of c.args.groups.now) c.in_ok-chains.chains c.in-Ok.firsts.items (groups-are c.args.hospitals c.args.groups.now c.requires.few_hospitals c.requires.few_groups c.requires.sets) built c.in-Ok.ensures in
+    let first = kept-firsts c.args.hospitals (chain_lists c.args.groups.now) c.in_ok-chains.chains c.in-Ok.firsts.items (groups-are c.args.hospitals c.args.groups.now c.requires.few_hospitals c.requires.few_groups c.requires.sets) built c.in-Ok.ensures in
     rw (c.deref-2.ensures.value, built.each_hospital) first.1
 
-pub invariant_of-result : goal.invariant_of-result
-invariant_of-result c =
-    let k = kept c.args.hospitals (lists_of c.args.groups.now) c.in_ok-chains.chains c.in-Ok.firsts.items (groups-are c.args.hospitals c.args.groups.now c.requires.few_hospitals c.requires.few_groups c.requires.sets) c.in_ok-chains.ensures.1 c.in-Ok.ensures in
+pub packed_tree-requires-clause-kept : goal.packed_tree-requires-clause-kept
+packed_tree-requires-clause-kept c =
+    (kept c.args.hospitals (chain_lists c.args.groups.now) c.in_ok-chains.chains c.in-Ok.firsts.items (groups-are c.args.hospitals c.args.groups.now c.requires.few_hospitals c.requires.few_groups c.requires.sets) c.in_ok-chains.ensures.1 c.in-Ok.ensures).1
+
+pub packed_tree-requires-clause-children : goal.packed_tree-requires-clause-children
+packed_tree-requires-clause-children c =
+    let k = kept c.args.hospitals (chain_lists c.args.groups.now) c.in_ok-chains.chains c.in-Ok.firsts.items (groups-are c.args.hospitals c.args.groups.now c.requires.few_hospitals c.requires.few_groups c.requires.sets) c.in_ok-chains.ensures.1 c.in-Ok.ensures in
     let told_children = rw c.in_ok-chains.ensures.1.each_hospital at c.in-Ok-children_of.ensures in
+    rw k.0 told_children
+
+pub packed_tree-requires-clause-members : goal.packed_tree-requires-clause-members
+packed_tree-requires-clause-members c =
+    let k = kept c.args.hospitals (chain_lists c.args.groups.now) c.in_ok-chains.chains c.in-Ok.firsts.items (groups-are c.args.hospitals c.args.groups.now c.requires.few_hospitals c.requires.few_groups c.requires.sets) c.in_ok-chains.ensures.1 c.in-Ok.ensures in
     let told_members = rw c.in_ok-chains.ensures.1.each_hospital at c.in-Ok-members_of.ensures in
-    (k.1, rw k.0 told_children, rw k.0 told_members)
+    rw k.0 told_members
 
 pub returns : goal.returns
 returns c = (
   c.in_ok-chains.ensures.0,
-  (kept c.args.hospitals (lists_of c.args.groups.now) c.in_ok-chains.chains c.in-Ok.firsts.items (groups-are c.args.hospitals c.args.groups.now c.requires.few_hospitals c.requires.few_groups c.requires.sets) c.in_ok-chains.ensures.1 c.in-Ok.ensures).0,
+  c.in-Ok-packed_tree.ensures
+      ∙ (kept c.args.hospitals (chain_lists c.args.groups.now) c.in_ok-chains.chains c.in-Ok.firsts.items (groups-are c.args.hospitals c.args.groups.now c.requires.few_hospitals c.requires.few_groups c.requires.sets) c.in_ok-chains.ensures.1 c.in-Ok.ensures).0,
 )

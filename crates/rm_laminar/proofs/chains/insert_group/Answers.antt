@@ -2,7 +2,7 @@ use Rattle.std.proofs.Common.{◌+◌, [], take, get_or, length, arith}
 use Rattle.std.proofs.lemmas.List.{take_all}
 use Rattle.rm_sets.proofs.Members.{IsIn-get_or}
 use Rattle.rm_market.specs.Tree.{put, tree_sets}
-use Rattle.rm_laminar.specs.Chains.{lists_of, is_larger}
+use Rattle.rm_laminar.specs.Chains.{chain_lists, is_larger}
 use Rattle.rm_laminar.proofs.ListOfLists.{lists-length}
 use Rattle.rm_laminar.proofs.Members.{new-member}
 use Rattle.rm_laminar.proofs.Grown.{put-at}
@@ -10,7 +10,7 @@ use Rattle.rm_laminar.proofs.Loops.{none-changed, unchanged, one-changed, nodes-
 use Rattle.rm_laminar.proofs.chains.insert_group.Goals as goal
 
 pub loop-i-init : goal.loop-i-init
-loop-i-init c = none-changed (put (is_larger (length c.args.group.now) (tree_sets (length c.args.chains.now) (lists_of c.args.earlier.now))) (length c.args.chains.now + length c.args.earlier.now)) c.args.chains.now
+loop-i-init c = none-changed (put (is_larger (length c.args.group.now) (tree_sets (length c.args.chains.now) (chain_lists c.args.earlier.now))) (length c.args.chains.now + length c.args.earlier.now)) c.args.chains.now
 
 pub list-requires : goal.list-requires
 list-requires c =
@@ -20,9 +20,9 @@ list-requires c =
 pub place_in-place-requires : goal.place_in-place-requires
 place_in-place-requires c =
     let below = c.requires.group.below (get_or c.args.group.now c.loop-i.i 0) (IsIn-get_or c.args.group.now c.loop-i.i 0 c.loop-i-test.true) in
-    let nodes = nodes-below (length c.args.chains.now) (lists_of c.args.earlier.now) c.args.chains.now (get_or c.args.group.now c.loop-i.i 0) c.requires.chains below in
+    let nodes = nodes-below (length c.args.chains.now) (chain_lists c.args.earlier.now) c.args.chains.now (get_or c.args.group.now c.loop-i.i 0) c.requires.chains below in
     let fresh = new-member c.args.group.now c.loop-i.i c.requires.group.ascending c.loop-i-test.true in
-    let here = unchanged (put (is_larger (length c.args.group.now) (tree_sets (length c.args.chains.now) (lists_of c.args.earlier.now))) (length c.args.chains.now + length c.args.earlier.now)) (get_or c.args.group.now c.loop-i.i 0) c.args.chains.now c.loop-i.chains (take c.loop-i.i c.args.group.now) c.loop-i.invariant fresh below in
+    let here = unchanged (put (is_larger (length c.args.group.now) (tree_sets (length c.args.chains.now) (chain_lists c.args.earlier.now))) (length c.args.chains.now + length c.args.earlier.now)) (get_or c.args.group.now c.loop-i.i 0) c.args.chains.now c.loop-i.chains (take c.loop-i.i c.args.group.now) c.loop-i.invariant fresh below in
     let same = lists-length c.args.earlier.now in
     rw (c.list.ensures, here, c.len-hospitals.ensures, ← same) nodes
 
@@ -40,8 +40,8 @@ loop-i-preserved c =
     let fresh = new-member c.args.group.now c.loop-i.i c.requires.group.ascending c.loop-i-test.true in
     let place = rw (c.list.ensures, c.len-hospitals.ensures) at c.place_in-place.ensures.place in
     let new = rw (c.len-hospitals.ensures, place) at c.in_ok-insert.ensures in
-    let at = put-at (is_larger (length c.args.group.now) (tree_sets (length c.args.chains.now) (lists_of c.args.earlier.now))) (length c.args.chains.now + length c.args.earlier.now) (get_or c.loop-i.chains (get_or c.args.group.now c.loop-i.i 0) []) in
-    one-changed (put (is_larger (length c.args.group.now) (tree_sets (length c.args.chains.now) (lists_of c.args.earlier.now))) (length c.args.chains.now + length c.args.earlier.now)) c.loop-i.i
+    let at = put-at (is_larger (length c.args.group.now) (tree_sets (length c.args.chains.now) (chain_lists c.args.earlier.now))) (length c.args.chains.now + length c.args.earlier.now) (get_or c.loop-i.chains (get_or c.args.group.now c.loop-i.i 0) []) in
+    one-changed (put (is_larger (length c.args.group.now) (tree_sets (length c.args.chains.now) (chain_lists c.args.earlier.now))) (length c.args.chains.now + length c.args.earlier.now)) c.loop-i.i
     c.args.chains.now c.loop-i.chains c.insert.new.self c.args.group.now c.loop-i.invariant c.loop-i-test.true fresh below (rw at at new)
 
 pub returns : goal.returns
