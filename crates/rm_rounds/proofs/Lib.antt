@@ -1,2 +1,3 @@
+pub mod Doctors
 pub mod Turns
 pub mod Closing

@@ -118,9 +118,6 @@ module _ (n : ℕ) (C : List ℕ → List ℕ) (w : Wishes) (s : State) (places 
   pub held_below : (x : ℕ) → IsIn x s.held → x < length w.owners
   held_below = held_set.below
 
-  pub spent_long : length s.spent ≡ length w.listed
-  spent_long = desk_reached.long
-
   module _ (d : ℕ) (doctor : d < length w.listed) where
     pub next_none : is_placed w s d ≡ true → next_offer w s d ≡ None
     next_none e = cond-true (is_placed w s d) None (slice_get (list_of w d) (get_or s.spent d 0)) e
@@ -235,5 +232,5 @@ module _ (n : ℕ) (C : List ℕ → List ℕ) (w : Wishes) (s : State) (places 
             (lt3, desk.wishes.owners z (let c = desk.wishes.contracts in omega (arith, lt3, c)))
 
 -- the same desk, told by equals
-pub same_desk : (n m : ℕ) (C D : List ℕ → List ℕ) (w : Wishes) (s : State) (p q : List (Option ℕ)) → m ≡ n → D ≡ C → q ≡ p → IsDesk n C w s p → IsDesk m D w s q
-same_desk n m C D w s p q e f g desk = subst (λ k. IsDesk k D w s q) (sym e) (subst (λ F. IsDesk n F w s q) (sym f) (subst (IsDesk n C w s) (sym g) desk))
+pub same_desk : (n m : ℕ) (C D : List ℕ → List ℕ) (w : Wishes) (s t : State) (p q : List (Option ℕ)) → m ≡ n → D ≡ C → t ≡ s → q ≡ p → IsDesk n C w s p → IsDesk m D w t q
+same_desk n m C D w s t p q e f h g desk = subst (λ k. IsDesk k D w t q) (sym e) (subst (λ F. IsDesk n F w t q) (sym f) (subst (λ u. IsDesk n C w u q) (sym h) (subst (IsDesk n C w s) (sym g) desk)))

@@ -1,5 +1,5 @@
 -- What a contract sees of a desk, and what each desk keeps.
-use Rattle.std.specs.Prelude.{◌≡◌, ◌≢◌, ◌⊎◌, ℕ, ◌-◌, ◌<◌, List, length, Option, Some, None, get_or, set}
+use Rattle.std.specs.Prelude.{◌≡◌, ◌≢◌, ◌⊎◌, ℕ, ◌-◌, ◌<◌, List, length, map, Option, Some, None, get_or, set}
 use Rattle.rm_market.specs.Stable.{Wishes, at}
 use Rattle.rm_market.specs.Machine.{State, next_offer, run, offered_so_far}
 use Rattle.rm_market.specs.Laws.{AreWishes, after}
@@ -7,12 +7,21 @@ use Rattle.rm_market.specs.declared.Outcome.{Outcome}
 use Rattle.rm_market.specs.declared.Outcome.TheVariants as out
 use Rattle.rm_market.specs.declared.Turn.{Turn}
 use Rattle.rm_market.specs.declared.Turn.TheVariants as turns
+use Rattle.rm_rounds.specs.declared.turn.Doctor.{Doctor}
 
 -- the doctors' wishes, how many of his contracts each has offered, and the holder
 pub record DeskTold (H : Type 0) : Type 0 where
   pub wishes : Wishes
   pub spent : List ℕ
   pub holder : H
+
+-- how many contracts each doctor has offered
+abbrev pub spent_each : List Doctor → List ℕ
+spent_each doctors = map (λ a. a.spent) doctors
+
+-- the held contract of each doctor
+abbrev pub place_each : List Doctor → List (Option ℕ)
+place_each doctors = map (λ a. a.place) doctors
 
 abbrev pub wishes : List ℕ → List (List ℕ) → Wishes
 wishes owners listed = record { owners = owners; listed = listed }

@@ -8,7 +8,7 @@ ghost use Rattle.rm_market.specs.Laws.{AreWishes};
 ghost use Rattle.rm_rounds.specs.Desk.{wishes, desk_state, Settles, left, one_if_some};
 
 use crate::NoMemory;
-use crate::turn::{doctor_to_go_on, has_offer, take_turn};
+use crate::turn::{Doctor, doctor_to_go_on, has_offer, take_turn};
 use rm_choice::Holder;
 use rm_market::Turn;
 use rm_ranks::Lists;
@@ -21,18 +21,17 @@ pub struct Desk<'a, H: Holder> {
     listed: &'a Lists,
     owners: &'a [u32],
     holder: H,
-    spent: Vec<usize>,
-    places: Vec<Option<u32>>,
+    doctors: Vec<Doctor>,
 }
 
 impl<'a, H: Holder> Model for Desk<'a, H> {
-    ghost use Rattle.rm_rounds.specs.Desk.{DeskTold, IsDesk, wishes, state};
+    ghost use Rattle.rm_rounds.specs.Desk.{DeskTold, IsDesk, wishes, state, spent_each, place_each};
 
     ghost Value = { DeskTold H };
 
-    ghost view = { λ k. record { wishes = wishes k.owners.now k.listed.now; spent = k.spent.items; holder = k.holder } };
+    ghost view = { λ k. record { wishes = wishes k.owners.now k.listed.now; spent = spent_each k.doctors.items; holder = k.holder } };
 
-    ghost invariant = { λ k. IsDesk (H.count k.holder) (H.chosen k.holder) (wishes k.owners.now k.listed.now) (state k.spent.items (H.held k.holder)) k.places.items };
+    ghost invariant = { λ k. IsDesk (H.count k.holder) (H.chosen k.holder) (wishes k.owners.now k.listed.now) (state (spent_each k.doctors.items) (H.held k.holder)) (place_each k.doctors.items) };
 }
 
 impl<'a, H: Holder> Desk<'a, H> {
@@ -52,15 +51,16 @@ impl<'a, H: Holder> Desk<'a, H> {
         ensures state { IfOk result (λ k. desk_state H.held k ≡ start (wishes owners.now listed.now)) }
         ensures chosen { IfOk result (λ k. H.chosen k.holder ≡ H.chosen holder) }
     {
-        let doctors = listed.len() as usize;
-        let spent = vec![in alloc; 0; doctors]?;
-        let places = vec![in alloc; None; doctors]?;
+        let newcomer = Doctor {
+            spent: 0,
+            place: None,
+        };
+        let doctors = vec![in alloc; newcomer; listed.len() as usize]?;
         Ok(Desk {
             listed,
             owners,
             holder,
-            spent,
-            places,
+            doctors,
         })
     }
 
@@ -77,8 +77,7 @@ impl<'a, H: Holder> Desk<'a, H> {
             self.listed,
             self.owners,
             &mut self.holder,
-            &mut self.spent,
-            &mut self.places,
+            &mut self.doctors,
             d,
         )
     }
@@ -117,7 +116,7 @@ impl<'a, H: Holder> Desk<'a, H> {
         requires doctor { d < length self.now.wishes.listed }
         ensures { result ≡ at self.now.wishes d (H.held self.now.holder) }
     {
-        self.places[d as usize]
+        self.doctors[d as usize].place
     }
 
     // Whether doctor d has a contract to offer at his turn.
@@ -125,7 +124,7 @@ impl<'a, H: Holder> Desk<'a, H> {
         requires doctor { d < length self.now.wishes.listed }
         ensures { result ≡ is_some (next_offer self.now.wishes (desk_state H.held self.now) d) }
     {
-        has_offer(self.listed, &self.spent, &self.places, d)
+        has_offer(self.listed, &self.doctors, d)
     }
 
     // Lets d offer until he is held or has offered all, and so each doctor who is put out.
