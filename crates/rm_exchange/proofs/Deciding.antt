@@ -27,7 +27,7 @@ use Rattle.rm_valuation_laws.proofs.BestOf.{best_of_is}
 use Rattle.rm_exchange.specs.declared.prospects.Swap.{Swap}
 use Rattle.rm_exchange.specs.declared.prospects.Prospects.{Prospects}
 use Rattle.rm_exchange.specs.Entrants.{HasHospitals}
-use Rattle.rm_exchange.specs.Prospects.{swap_change, IsNoBetter, IsBestSwap, IsBestSwapOf, AreProspects, IsAddition, IsKeeping, IsSwapping, IsRefusing, IsDecided}
+use Rattle.rm_exchange.specs.Prospects.{swap_change, IsNoGreater, IsBestRated, IsBestRatedOf, AreProspects, IsOwnAddition, IsKeeping, IsSwapping, IsRefusing, IsDecided}
 
 -- a set is no better where its score is no higher, if it is feasible at all
 not_better : (v : Values) (S D : List ℕ) → v.feasible D ≡ true → (v.feasible S ≡ true → score v S ≤ℤ score v D) → is_better v S D ≡ false
@@ -53,7 +53,7 @@ pub record IsOffer (b : Board) (H : List ℕ) (x : ℕ) (p : Prospects) : Type 0
 ends : (b : Board) (H : List ℕ) (x : ℕ) (p : Prospects) → (o : IsOffer b H x p) → EndsWalk b H x o.prospects.node
 ends b H x p o = (o.prospects.has_x, at p.addition o.prospects.addition)
   where
-    at : (a : Option ℤ) → IsAddition b H x o.prospects.node a → IsFull b H (node_at b o.prospects.node)
+    at : (a : Option ℤ) → IsOwnAddition b H x o.prospects.node a → IsFull b H (node_at b o.prospects.node)
         ⊎ ((is_feasible b (with_one H x) ≡ true) × ((l : ℕ) → l < length b.nodes → test_at b l x ≡ true → IsInside (test_at b l) (test_at b o.prospects.node)))
     at None full = inl full
     at (Some change) open_end = inr (open_end.0, open_end.2)
@@ -70,19 +70,19 @@ addition_is : (b : Board) (H : List ℕ) (x : ℕ) (p : Prospects) → (o : IsOf
 addition_is b H x p o f = at p.addition refl
   where
     at : (a : Option ℤ) → p.addition ≡ a → (change : ℤ) × (p.addition ≡ Some change) × (worth b (with_one H x) ≡ worth b H +ℤ change)
-    at None e = absurd (let full = subst (IsAddition b H x o.prospects.node) e o.prospects.addition in not_both (is_feasible b (with_one H x)) f (added_infeasible b H x o.prospects.node o.new o.prospects.below o.prospects.has_x full))
-    at (Some change) e = let a = subst (IsAddition b H x o.prospects.node) e o.prospects.addition in (change, e, worth_added b H x o.new f ∙ ap (λ w. worth b H +ℤ w) (sym a.1))
+    at None e = absurd (let full = subst (IsOwnAddition b H x o.prospects.node) e o.prospects.addition in not_both (is_feasible b (with_one H x)) f (added_infeasible b H x o.prospects.node o.new o.prospects.below o.prospects.has_x full))
+    at (Some change) e = let a = subst (IsOwnAddition b H x o.prospects.node) e o.prospects.addition in (change, e, worth_added b H x o.new f ∙ ap (λ w. worth b H +ℤ w) (sym a.1))
 
 -- each swap within the node is no better than the best one
-best_swap : (b : Board) (H : List ℕ) (x : ℕ) (p : Prospects) → (o : IsOffer b H x p) → (z : ℕ) → IsIn z H → test_at b o.prospects.node z ≡ true → (s : Swap) × (p.swap ≡ Some s) × IsBestSwap b H x (test_at b o.prospects.node) s
+best_swap : (b : Board) (H : List ℕ) (x : ℕ) (p : Prospects) → (o : IsOffer b H x p) → (z : ℕ) → IsIn z H → test_at b o.prospects.node z ≡ true → (s : Swap) × (p.swap ≡ Some s) × IsBestRated b H x (test_at b o.prospects.node) s
 best_swap b H x p o z inz t = at p.swap refl o.prospects.swap
   where
-    at : (s : Option Swap) → p.swap ≡ s → IsBestSwapOf b H x (test_at b o.prospects.node) s → (r : Swap) × (p.swap ≡ Some r) × IsBestSwap b H x (test_at b o.prospects.node) r
+    at : (s : Option Swap) → p.swap ≡ s → IsBestRatedOf b H x (test_at b o.prospects.node) s → (r : Swap) × (p.swap ≡ Some r) × IsBestRated b H x (test_at b o.prospects.node) r
     at None e none = absurd (not_both (test_at b o.prospects.node z) t (none z inz))
     at (Some s) e best = (s, e, best)
 
-the_swap : (b : Board) (H : List ℕ) (x : ℕ) (p : Prospects) → (o : IsOffer b H x p) → (s : Swap) → p.swap ≡ Some s → IsBestSwap b H x (test_at b o.prospects.node) s
-the_swap b H x p o s e = subst (IsBestSwapOf b H x (test_at b o.prospects.node)) e o.prospects.swap
+the_swap : (b : Board) (H : List ℕ) (x : ℕ) (p : Prospects) → (o : IsOffer b H x p) → (s : Swap) → p.swap ≡ Some s → IsBestRated b H x (test_at b o.prospects.node) s
+the_swap b H x p o s e = subst (IsBestRatedOf b H x (test_at b o.prospects.node)) e o.prospects.swap
 
 in_ties : (b : Board) (H : List ℕ) (x : ℕ) (p : Prospects) → IsOffer b H x p → (z : ℕ) → z < length b.leaves → IsIn z b.ties
 in_ties b H x p o z lt = (o.concave.ties_all z).1 lt
@@ -110,7 +110,7 @@ kept_best b H x p o k =
     let v = values_of b in
     let A = with_one H x in
     let change = k.0 in
-    let add = subst (IsAddition b H x o.prospects.node) k.1 o.prospects.addition in
+    let add = subst (IsOwnAddition b H x o.prospects.node) k.1 o.prospects.addition in
     let w : worth b A ≡ worth b H +ℤ change = worth_added b H x o.new add.0 ∙ ap (λ g. worth b H +ℤ g) (sym add.1) in
     let up = k.2 in
     answer b H x p A o (record {
@@ -128,12 +128,12 @@ kept_best b H x p o k =
           omega (arith, ints));
     })
   where
-    at_most : (h a s c d g : ℤ) (t u : ℕ) → a ≡ h +ℤ g → s ≡ h +ℤ c → IsNoBetter c t d u → d ≤ℤ g → s ≤ℤ a
+    at_most : (h a s c d g : ℤ) (t u : ℕ) → a ≡ h +ℤ g → s ≡ h +ℤ c → IsNoGreater c t d u → d ≤ℤ g → s ≤ℤ a
     at_most h a s c d g t u e f (inl lt) le = omega (arith, ints)
     at_most h a s c d g t u e f (inr tie) le = let same = tie.0 in omega (arith, ints)
 
 -- of two swaps the one that is no better has no higher score
-swap_scores : (b : Board) (H : List ℕ) (x z y : ℕ) → IsIn z H → IsIn y H → has x H ≡ false → IsIn y b.ties → (c d : ℤ) → worth b (swapped H x z) ≡ worth b H +ℤ c → worth b (swapped H x y) ≡ worth b H +ℤ d → IsNoBetter c (place b.ties z) d (place b.ties y) → score (values_of b) (swapped H x z) ≤ℤ score (values_of b) (swapped H x y)
+swap_scores : (b : Board) (H : List ℕ) (x z y : ℕ) → IsIn z H → IsIn y H → has x H ≡ false → IsIn y b.ties → (c d : ℤ) → worth b (swapped H x z) ≡ worth b H +ℤ c → worth b (swapped H x y) ≡ worth b H +ℤ d → IsNoGreater c (place b.ties z) d (place b.ties y) → score (values_of b) (swapped H x z) ≤ℤ score (values_of b) (swapped H x y)
 swap_scores b H x z y inz iny out inTies c d wz wy (inl lt) = let s = score_by_worth (values_of b) (swapped H x y) (swapped H x z) (omega (arith, ints)) in omega (arith, ints)
 swap_scores b H x z y inz iny out inTies c d wz wy (inr tie) =
     let same = tie.0 in
@@ -171,7 +171,7 @@ swapped_best b H x p o tie tied z sw =
             omega (arith, ints));
         not_swapped = λ y iny ty. not_better v (swapped H x y) D fD (λ f.
             swap_scores b H x y z iny inz o.new (in_ties b H x p o z (o.set.below z inz)) (swap_change b H x y) s.change (worth_with b H x p o y iny f) wD
-            (subst (λ w. IsNoBetter (swap_change b H x y) (place b.ties y) s.change w) place_is (best.best y iny ty)));
+            (subst (λ w. IsNoGreater (swap_change b H x y) (place b.ties y) s.change w) place_is (best.best y iny ty)));
       }),
     )
   where
@@ -209,7 +209,7 @@ refused_best b H x p o tie tied r =
           omega (arith, ints));
     })
   where
-    under : (h d c m : ℤ) (t u v x : ℕ) → d ≡ h +ℤ c → v ≡ x → t ≢ x → IsNoBetter c t m u → (m <ℤ pos 0) ⊎ ((m ≡ pos 0) × (u ≤ v)) → (d <ℤ h) ⊎ ((h ≡ d) × (t < x))
+    under : (h d c m : ℤ) (t u v x : ℕ) → d ≡ h +ℤ c → v ≡ x → t ≢ x → IsNoGreater c t m u → (m <ℤ pos 0) ⊎ ((m ≡ pos 0) × (u ≤ v)) → (d <ℤ h) ⊎ ((h ≡ d) × (t < x))
     under h d c m t u v x e f ne (inl lt) (inl q) = inl (omega (arith, ints))
     under h d c m t u v x e f ne (inl lt) (inr q) = let same = q.0 in inl (omega (arith, ints))
     under h d c m t u v x e f ne (inr tie) (inl q) = let same = tie.0 in inl (omega (arith, ints))

@@ -1,72 +1,23 @@
--- Where the entrants of a board compete: each contract of a node is of one entrant there.
-use Rattle.std.proofs.Common.{◌≡◌, ◌∙◌, ◌⊎◌, ℕ, zero, suc, ◌+◌, ◌-◌, ◌<◌, ◌≤◌, List, [], ◌∷◌, Bool, true, false, not, ◌&&◌, ◌||◌, cond, length, get_or, drop, filter, eqb, ltb, Option, Some, None, ℤ, pos, refl, sym, ap, subst, inl, inr, ⊎_elim, arith, eqb-true, eq-eqb, ltb-true, add-one}
+-- Where the nodes of a board compete: each contract of a node that is no hospital is of one node just inside.
+use Rattle.std.proofs.Common.{◌≡◌, ◌∙◌, ◌⊎◌, ℕ, zero, suc, ◌+◌, ◌<◌, ◌≤◌, List, [], ◌∷◌, Bool, true, false, length, drop, filter, eqb, ltb, Some, refl, sym, ap, subst, inl, inr, ⊎_elim, arith, eqb-true, eq-eqb, ltb-true, add-one}
 use Rattle.std.specs.List.{slice_get}
-use Rattle.std.proofs.lemmas.Bool.{cases_eq, cases_lt, and_from, and_parts, or_cases, or_left, or_right, lt-ltb, le-ltb, false_from_ne_true}
-use Rattle.std.proofs.lemmas.List.{length-map, get_or-map}
-use Rattle.std.proofs.lemmas.Option.{slice_get-get_or}
+use Rattle.std.proofs.lemmas.Bool.{and_from, and_parts, or_cases, or_left, or_right, lt-ltb, false_from_ne_true}
+use Rattle.std.proofs.lemmas.List.{length-map}
 use Rattle.rm_sets.specs.Sets.{has, IsIn, all_below}
-use Rattle.rm_sets.proofs.Sets.{not_both, IsIn-here, IsIn-cases, has-all_below, IsSet-all_below, below-all_below}
+use Rattle.rm_sets.proofs.Sets.{not_both, same_tests, IsIn-here, IsIn-cases, has-all_below, IsSet-all_below, below-all_below}
 use Rattle.rm_sets.proofs.Sizes.{length_less, length-all_below}
-use Rattle.rm_sets.proofs.Members.{IsIn-get_or, place_from_IsIn}
-use Rattle.rm_market.specs.Board.{Board, contract_count, leaf_of, node_at, sets_of}
+use Rattle.rm_sets.proofs.Members.{place_from_IsIn}
+use Rattle.rm_market.specs.Board.{Board, contract_count, leaf_of, sets_of}
 use Rattle.rm_market.specs.Tree.{set_of, is_inside, chain, parent, below, in_order}
 use Rattle.rm_laminar.specs.Chains.{IsOrdered, IsOrderedChain}
 use Rattle.rm_laminar.proofs.Laminar.{Holds, chain-is, chain-holds, holds-chain, inside-before, has-below}
 use Rattle.rm_laminar.proofs.Order.{has-in_order}
-use Rattle.rm_laminar.proofs.Parents.{Splits, splits, parent-next}
-use Rattle.rm_valuation_laws.specs.Changes.{IsConcaveBoard, test_at, last_step, loss_upto}
-use Rattle.rm_valuation_laws.specs.Order.{is_under, IsParent}
+use Rattle.rm_laminar.proofs.Parents.{splits, parent-next}
+use Rattle.rm_valuation_laws.specs.Changes.{test_at}
+use Rattle.rm_valuation_laws.specs.Order.{IsParent}
 use Rattle.rm_valuation_laws.proofs.Order.{set_is, inside_trans, inside_once, inside_tests, comparable, child_of}
-use Rattle.rm_exchange.specs.Entrants.{HasHospitals, home, is_of, cost, size, inner_cost, inner_size}
-use Rattle.rm_exchange.proofs.Inner.{inner, inner_none, upto_is_inner}
-
--- ---- what is told of a contract, and of a node
-
-later : (n k : ℕ) → ltb (n + k) n ≡ false
-later n k = le-ltb (n + k) n (omega arith)
-
-less_back : (n k : ℕ) → (n + k) - n ≡ k
-less_back n k = omega arith
-
-pub home_contract : (b : Board) (x : ℕ) → x < contract_count b → home b x ≡ Some (leaf_of b x)
-unfolding home
-home_contract b x lt = rw (lt-ltb x (contract_count b) lt) refl
-
-pub home_node : (b : Board) (k : ℕ) → home b (contract_count b + k) ≡ parent (sets_of b) k
-unfolding home
-home_node b k =
-    let n = contract_count b in
-    ap (λ t. cond t (Some (leaf_of b (n + k))) (parent (sets_of b) ((n + k) - n))) (later n k) ∙ ap (parent (sets_of b)) (less_back n k)
-
-pub of_contract : (b : Board) (x z : ℕ) → x < contract_count b → is_of b x z ≡ eqb z x
-unfolding is_of
-of_contract b x z lt = rw (lt-ltb x (contract_count b) lt) refl
-
-pub of_node : (b : Board) (k z : ℕ) → is_of b (contract_count b + k) z ≡ test_at b k z
-unfolding is_of
-of_node b k z =
-    let n = contract_count b in
-    ap (λ t. cond t (eqb z (n + k)) (test_at b ((n + k) - n) z)) (later n k) ∙ ap (λ j. test_at b j z) (less_back n k)
-
-pub cost_contract : (b : Board) (H : List ℕ) (x z : ℕ) → x < contract_count b → cost b H x z ≡ pos 0
-unfolding cost
-cost_contract b H x z lt = ap (λ t. cond t (pos 0) (loss_upto b (is_under b) H (x - contract_count b) z)) (lt-ltb x (contract_count b) lt)
-
-pub cost_node : (b : Board) (H : List ℕ) (k z : ℕ) → cost b H (contract_count b + k) z ≡ loss_upto b (is_under b) H k z
-unfolding cost
-cost_node b H k z =
-    let n = contract_count b in
-    ap (λ t. cond t (pos 0) (loss_upto b (is_under b) H ((n + k) - n) z)) (later n k) ∙ ap (λ j. loss_upto b (is_under b) H j z) (less_back n k)
-
-pub size_contract : (b : Board) (x : ℕ) → x < contract_count b → size b x ≡ 0
-unfolding size
-size_contract b x lt = rw (lt-ltb x (contract_count b) lt) refl
-
-pub size_node : (b : Board) (k : ℕ) → size b (contract_count b + k) ≡ inner_size b k + 1
-unfolding size
-size_node b k =
-    let n = contract_count b in
-    ap (λ t. cond t 0 (inner_size b ((n + k) - n) + 1)) (later n k) ∙ ap (λ j. inner_size b j + 1) (less_back n k)
+use Rattle.rm_exchange.specs.Entrants.{HasHospitals, inner_cost, whole_cost, inner_size}
+use Rattle.rm_exchange.proofs.Inner.{upto_is_inner}
 
 -- ---- sizes
 
@@ -198,59 +149,34 @@ nothing_inside b plan y k lt lk tk =
     let same : h ≡ k = one_member h k (subst (λ S. IsIn h S) (plan.own k (omega arith)) there) in
     omega arith)
 
--- ---- entrants
+-- ---- the nodes just inside
 
--- of a contract and the entrant that it is of: what is told at the entrant's home
-pub record IsAtHome (b : Board) (e a z : ℕ) : Type 0 where
+-- of a contract of a node: what is told at the node just outside
+pub record IsAtHome (b : Board) (c a z : ℕ) : Type 0 where
   pub node : a < length b.nodes
   pub inside : test_at b a z ≡ true
-  pub lost : (H : List ℕ) → inner_cost b H a z ≡ cost b H e z
-  pub smaller : size b e ≤ inner_size b a
+  pub lost : (H : List ℕ) → inner_cost b H a z ≡ whole_cost b H c z
+  pub smaller : inner_size b c + 1 ≤ inner_size b a
 
-some_same : (a c : ℕ) → Some a ≡ Some c → a ≡ c
-some_same a c e = cc
+pub at_home : (b : Board) → HasHospitals b → (c a z : ℕ) → c < length b.nodes → parent (sets_of b) c ≡ Some a → test_at b c z ≡ true → IsAtHome b c a z
+at_home b plan c a z lc p t =
+    let par = parent_is b plan c a z lc t p in
+    record {
+      node = par.1;
+      inside = inside_tests b c a par.0.inside z t;
+      lost = λ H. upto_is_inner b H plan.concave c a z lc par.0 t;
+      smaller = size_less b c a lc par.0.inside;
+    }
 
-pub at_home : (b : Board) → HasHospitals b → (e a z : ℕ) → e < contract_count b + length b.nodes → home b e ≡ Some a → is_of b e z ≡ true → IsAtHome b e a z
-at_home b plan e a z le h o =
-    ⊎_elim
-    (λ lt.
-    let here : leaf_of b e ≡ a = some_same (leaf_of b e) a (sym (home_contract b e lt) ∙ h) in
-    let same : z ≡ e = eqb-true z e (sym (of_contract b e z lt) ∙ o) in
-    subst (λ w. IsAtHome b e w z) here (subst (λ w. IsAtHome b e (leaf_of b e) w) (sym same) (record {
-      node = let few = plan.leaf e lt in let more = plan.nodes in omega arith;
-      inside = leaf_test b plan e lt;
-      lost = λ H. inner_none b (λ k. last_step b H (node_at b k)) (leaf_of b e) e (λ k lk tk. nothing_inside b plan e k lt lk tk) ∙ sym (cost_contract b H e e lt);
-      smaller = let s = size_contract b e lt in omega arith;
-    })))
-    (λ ge.
-    let n = contract_count b in
-    let k = e - n in
-    let is : n + k ≡ e = omega arith in
-    subst (λ w. IsAtHome b w a z) is (node_home k (omega arith) (sym (home_node b k) ∙ (ap (home b) is ∙ h)) (sym (of_node b k z) ∙ (ap (λ w. is_of b w z) is ∙ o))))
-    (cases_lt e (contract_count b))
-  where
-    node_home : (k : ℕ) → k < length b.nodes → parent (sets_of b) k ≡ Some a → test_at b k z ≡ true → IsAtHome b (contract_count b + k) a z
-    node_home k lk p t =
-        let par = parent_is b plan k a z lk t p in
-        record {
-          node = par.1;
-          inside = inside_tests b k a par.0.inside z t;
-          lost = λ H. upto_is_inner b H plan.concave k a z lk par.0 t ∙ sym (cost_node b H k z);
-          smaller = let s = size_node b k in let l = size_less b k a lk par.0.inside in omega arith;
-        }
-
--- each contract of a node is of an entrant there
-pub entrant_of : (b : Board) → HasHospitals b → (a y : ℕ) → a < length b.nodes → y < contract_count b → test_at b a y ≡ true → (e : ℕ) × (e < contract_count b + length b.nodes) × (home b e ≡ Some a) × (is_of b e y ≡ true)
-entrant_of b plan a y la lt t =
+-- each contract of a node that is no hospital is of a node just inside
+pub inner_node : (b : Board) → HasHospitals b → (a y : ℕ) → a < length b.nodes → length b.ranks ≤ a → y < contract_count b → test_at b a y ≡ true → (c : ℕ) × (c < length b.nodes) × (parent (sets_of b) c ≡ Some a) × (test_at b c y ≡ true)
+inner_node b plan a y la group lt t =
     let h = leaf_of b y in
     let few = plan.leaf y lt in
     let more = plan.nodes in
-    ⊎_elim
-    (λ same. (y, omega arith, home_contract b y lt ∙ ap (λ w. Some w) (sym same), of_contract b y y lt ∙ eq-eqb y y refl))
-    (λ ne.
     let inside : is_inside (sets_of b) h a ≡ true =
     ⊎_elim
-    (λ same. absurd (ne same))
+    (λ same. absurd (let e : a ≡ h = same in omega arith))
     (λ rest. ⊎_elim
     (λ i. absurd (not_both (is_inside (sets_of b) a h) i (nothing_inside b plan y a lt la t)))
     (λ i. i)
@@ -258,8 +184,17 @@ entrant_of b plan a y la lt t =
     (comparable b plan.concave a h y la (omega arith) t (leaf_test b plan y lt))
     in
     let c = child_of b plan.concave a h y la (omega arith) (leaf_test b plan y lt) inside in
-    (contract_count b + c.0, omega (arith, c.1), home_node b c.0 ∙ parent_from b plan c.0 a y c.1 la c.3 c.2, of_node b c.0 y ∙ c.3))
-    (cases_eq a h)
+    (c.0, c.1, parent_from b plan c.0 a y c.1 la c.3 c.2, c.3)
+
+-- a hospital's node has just the contracts with its leaf
+pub own_test : (b : Board) (h y : ℕ) → set_of (sets_of b) h ≡ h ∷ [] → test_at b h y ≡ eqb (leaf_of b y) h
+own_test b h y own =
+    sym (ap (has (leaf_of b y)) (set_is b h)) ∙ (ap (has (leaf_of b y)) own ∙ same_tests (has (leaf_of b y) (h ∷ [])) (eqb (leaf_of b y) h)
+    (λ i. eq-eqb (leaf_of b y) h (one_member (leaf_of b y) h i))
+    (λ e. subst (λ w. IsIn w (h ∷ [])) (sym (eqb-true (leaf_of b y) h e)) (IsIn-here h [])))
+
+pub leaf_test_is : (b : Board) → HasHospitals b → (h y : ℕ) → h < length b.ranks → test_at b h y ≡ eqb (leaf_of b y) h
+leaf_test_is b plan h y lt = own_test b h y (plan.own h lt)
 
 -- a parent is a node
 pub parent_below : (sets : List (List ℕ)) (k a : ℕ) → parent sets k ≡ Some a → a < length sets

@@ -9,6 +9,8 @@ pub mod Rounds
 pub mod Inner
 pub mod Homes
 pub mod Mending
+pub mod Greatest
+pub mod Leaves
 pub mod Held
 pub mod Chain
 pub mod CheapestSwap

@@ -34,7 +34,7 @@ below_next (suc k) (y ∷ S) x s lt i =
 pub new_next : (k : ℕ) (S : List ℕ) → IsSet S → k < length S → has (get_or S k 0) (take k S) ≡ false
 new_next k S s lt = not_in_from (get_or S k 0) (take k S) (λ i. let up = below_next k S (get_or S k 0) s lt i in omega arith)
 
-with_last : (S : List ℕ) (x : ℕ) → IsSet S → ((y : ℕ) → IsIn y S → y < x) → with_one S x ≡ S ++ x ∷ []
+pub with_last : (S : List ℕ) (x : ℕ) → IsSet S → ((y : ℕ) → IsIn y S → y < x) → with_one S x ≡ S ++ x ∷ []
 with_last S x s up =
     same_within (with_one S x) (S ++ x ∷ []) (IsSet-with_one S x s) (IsSet-push S x s up)
     (λ y i. ⊎_elim (λ old. IsIn-append_left S (x ∷ []) y old) (λ e. subst (λ z. IsIn z (S ++ x ∷ [])) (sym e) (IsIn-append_right S (x ∷ []) x (IsIn-here x []))) (IsIn-with_one_cases y S x i))

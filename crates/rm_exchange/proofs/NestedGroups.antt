@@ -3,12 +3,12 @@ use Rattle.std.proofs.Common.{◌≡◌, ◌∙◌, ℕ, ◌+◌, ◌<◌, ◌�
 use Rattle.std.specs.Prelude.{drop}
 use Rattle.std.specs.List.{IsDistinct}
 use Rattle.std.specs.declared.alloc.Global.{Global}
-use Rattle.rm_laminar.specs.Chains.{lists_of}
+use Rattle.rm_laminar.specs.Chains.{chain_lists}
 use Rattle.std.proofs.lemmas.Bool.{cases_lt}
 use Rattle.std.proofs.lemmas.List.{get_or-drop, length-drop}
 use Rattle.std.proofs.lemmas.List.Elements.{All-nil, All-cons, All-from_get_or, All-map}
 use Rattle.rm_sets.specs.Sets.{IsIn, IsSet, IsSetBelow, below}
-use Rattle.rm_sets.proofs.Once.{distinct_from_once}
+use Rattle.rm_sets.proofs.Once.{distinct_none}
 use Rattle.rm_sets.proofs.Sets.{IsSet-all_below, below-all_below}
 use Rattle.rm_market.specs.Board.{Board, IsBoard, IsFalling, IsTieOrder}
 use Rattle.rm_market.specs.Steps.{AreSteps}
@@ -43,7 +43,7 @@ nested_board ranks tree steps ties board e tie d b long a sets fault = (
 )
   where
     alone : IsDistinct eqb []
-    alone = distinct_from_once [] tt
+    alone = distinct_none
 
     nobody : All (IsDistinct eqb) no_lists
     nobody = All-cons (IsDistinct eqb) [] ([] ∷ []) alone (All-cons (IsDistinct eqb) [] [] alone (All-nil (IsDistinct eqb)))
@@ -55,5 +55,5 @@ nested_board ranks tree steps ties board e tie d b long a sets fault = (
     nothing = All-cons (All (λ x. x < length ranks)) [] ([] ∷ []) none (All-cons (All (λ x. x < length ranks)) [] [] none (All-nil (All (λ x. x < length ranks))))
 
 -- the sets of groups that are kept in vectors
-pub kept_sets : (n : ℕ) (groups : List (Vec ℕ Global)) → All (λ g. IsSetBelow n g.items) groups → All IsSet (lists_of groups)
+pub kept_sets : (n : ℕ) (groups : List (Vec ℕ Global)) → All (λ g. IsSetBelow n g.items) groups → All IsSet (chain_lists groups)
 kept_sets n groups h = All-map IsSet (λ (g : Vec ℕ Global). g.items) groups (λ k e lt. (h k e lt).ascending)

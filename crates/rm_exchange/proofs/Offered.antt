@@ -1,11 +1,13 @@
 -- An offer to what a fast holder holds.
-use Rattle.std.proofs.Common.{◌≡◌, ◌≢◌, ◌∙◌, ◌⊎◌, ℕ, ◌<◌, ◌≤◌, List, Bool, true, false, length, sym, ap, subst, ⊎_elim, arith}
+use Rattle.std.proofs.lemmas.Int.{ints}
+use Rattle.std.proofs.Common.{not, ◌&&◌, map, ◌-ℤ◌, ◌≡◌, ◌∙◌, ℕ, ◌<◌, ◌≤◌, List, true, false, sym, ap, subst, ⊎_elim, arith}
 use Rattle.std.proofs.lemmas.Bool.{cases_eq}
 use Rattle.rm_sets.specs.Sets.{has, IsIn, IsSet, IsSetBelow, IsWithin, with_one, without}
 use Rattle.rm_sets.proofs.Sets.{same_sets, IsSet-with_one, IsSet-without}
 use Rattle.rm_sets.proofs.Members.{within_refl, IsIn-with_one_new, not_in_without, IsSetBelow-with_one}
 use Rattle.rm_market.specs.Best.{IsBest, IsValuation, best_of, values_of, swapped}
-use Rattle.rm_market.specs.Board.{Board, contract_count}
+use Rattle.rm_market.specs.Board.{Board, contract_count, leaf_of, node_at, int_sum}
+use Rattle.rm_valuation_laws.specs.Changes.{on, in_node, test_at, next_step, last_step}
 use Rattle.rm_valuation_laws.specs.Scores.{place}
 use Rattle.rm_valuation_laws.proofs.Moves.{with_other, without_other, swapped_new, swapped_old, swapped_other, apart}
 use Rattle.rm_valuation_laws.proofs.Offers.{IsSet-swapped}
@@ -15,8 +17,9 @@ use Rattle.rm_valuation_laws.proofs.BestOf.{best_of_is}
 use Rattle.rm_exchange.specs.declared.prospects.Prospects.{Prospects}
 use Rattle.rm_exchange.specs.declared.holding.Holding.{Holding}
 use Rattle.rm_exchange.specs.Entrants.{HasHospitals}
-use Rattle.rm_exchange.specs.Prospects.{AreProspects}
-use Rattle.rm_exchange.specs.Holding.{held_in, IsAllKept, IsHolding}
+use Rattle.rm_exchange.specs.Prospects.{swap_change, IsBestRated, IsBestRatedOf, IsSwapping, AreProspects}
+use Rattle.rm_exchange.proofs.Leaves.{no_less}
+use Rattle.rm_exchange.specs.Holding.{held_in, IsHolding}
 use Rattle.rm_exchange.proofs.Held.{held_set}
 use Rattle.rm_exchange.proofs.Deciding.{IsOffer}
 
@@ -52,6 +55,25 @@ is_settled b H D x plan sH lx sD best =
     let choice = choice_from_bests (contract_count b) (values_of b) (best_of (values_of b)) laws (λ X s. best_of_is (contract_count b) (values_of b) X laws s) in
     let is = is_chosen b H D x plan sH lx best in
     choice.same D (with_one H x) sD (IsSetBelow-with_one (contract_count b) H x sH lx) best.within (subst (λ C. IsWithin C D) (sym is) (within_refl D)) ∙ is
+
+-- where x replaces a contract, only its leaf counts
+swap_change_of : (b : Board) (H : List ℕ) (x y z : ℕ) → leaf_of b y ≡ leaf_of b z → swap_change b H x y ≡ swap_change b H x z
+swap_change_of b H x y z same =
+    ap (λ l. int_sum (map (λ n. on (in_node b n x && not (has l n.leaves)) (next_step b H n)) b.nodes) -ℤ int_sum (map (λ n. on (has l n.leaves && not (in_node b n x)) (last_step b H n)) b.nodes)) same
+
+-- what is displaced is the greatest one of its leaf, since it is the last one in tie order of the best swaps
+pub displaced_greatest : (b : Board) (H : List ℕ) (x : ℕ) (p : Prospects) (tie z : ℕ) → HasHospitals b → IsSetBelow (contract_count b) H → AreProspects b H x p → IsSwapping p tie z → (y : ℕ) → IsIn y H → leaf_of b y ≡ leaf_of b z → y ≤ z
+displaced_greatest b H x p tie z plan sH prospects decided y inH same =
+    let s = decided.0 in
+    let best : IsBestRated b H x (test_at b prospects.node) s = subst (IsBestRatedOf b H x (test_at b prospects.node)) decided.1 prospects.swap in
+    let z_is : z ≡ s.contract = decided.2 in
+    let leaf : leaf_of b y ≡ leaf_of b s.contract = same ∙ ap (leaf_of b) z_is in
+    let passes : test_at b prospects.node y ≡ true = ap (λ l. has l (node_at b prospects.node).leaves) leaf ∙ best.passes in
+    let change = swap_change_of b H x y s.contract leaf ∙ sym best.change in
+    ⊎_elim
+    (λ less. absurd (omega (arith, ints, less, change)))
+    (λ tied. subst (λ w. y ≤ w) (sym z_is) (no_less b plan y s.contract (sH.below y inH) leaf (subst (λ w. place b.ties y ≤ w) best.tie tied.1)))
+    (best.best y inH passes)
 
 -- x in the place of z is x held too, and z let go
 pub swapped_is : (H : List ℕ) (z x : ℕ) → IsSet H → IsIn z H → has x H ≡ false → swapped H x z ≡ without (with_one H x) z

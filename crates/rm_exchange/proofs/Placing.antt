@@ -1,15 +1,13 @@
 -- Places given one after another, and a holder that holds nothing.
-use Rattle.std.proofs.Common.{◌≡◌, ◌≢◌, ◌∙◌, ◌⊎◌, ℕ, zero, suc, ◌+◌, ◌-◌, ◌<◌, ◌≤◌, List, [], ◌∷◌, ◌++◌, Bool, true, false, length, map, get_or, set, replicate, Option, Some, None, refl, sym, ap, subst, inl, inr, ⊎_elim, arith, add-one}
+use Rattle.std.proofs.Common.{◌≡◌, ◌∙◌, ℕ, ◌+◌, ◌<◌, ◌≤◌, List, [], ◌∷◌, ◌++◌, length, get_or, set, Option, Some, None, refl, sym, ap, subst, ⊎_elim, arith}
 use Rattle.std.proofs.lemmas.Bool.{cases_eq, cases_lt}
-use Rattle.std.proofs.lemmas.List.{get_or-set_same, get_or-set_other, get_or-replicate, get_or_past, length-set, length-replicate, length-append, length-map, get_or-map, get_or_append_left}
+use Rattle.std.proofs.lemmas.List.{get_or-set_same, get_or-set_other, length-set, length-append, length-map, get_or_append_left}
 use Rattle.std.proofs.Math.Seq.{get_or-append_seam}
-use Rattle.std.proofs.lemmas.List.Elements.{All-get_or}
-use Rattle.rm_market.specs.Board.{Board, IsBoard, contract_count, leaf_of, node_at, no_node, sets_of}
-use Rattle.rm_exchange.specs.Entrants.{HasHospitals, home}
+use Rattle.rm_market.specs.Board.{Board, leaf_of, sets_of}
 use Rattle.std.specs.Prelude.{◌^◌, IfSome}
 use Rattle.rm_market.specs.Tree.{parent}
-use Rattle.rm_exchange.proofs.Homes.{home_node, parent_below}
-use Rattle.rm_exchange.specs.Holding.{entrants, ArePlaced, ArePlacedSo, IsEntered}
+use Rattle.rm_exchange.proofs.Homes.{parent_below}
+use Rattle.rm_exchange.specs.Holding.{ArePlacedSo, IsEntered}
 
 some_same : (s t : ℕ) → Some s ≡ Some t → s ≡ t
 some_same s t e = cc
@@ -31,8 +29,8 @@ none_placed b widths zeros = record {
   };
 }
 
--- an entrant that competes nowhere
-pub skip_placed : (b : Board) (j : ℕ) (widths places : List ℕ) (p : ℕ) → home b j ≡ None → ArePlacedSo b j widths places → ArePlacedSo b (j + 1) widths (places ++ p ∷ [])
+-- a node that lies inside no other
+pub skip_placed : (b : Board) (j : ℕ) (widths places : List ℕ) (p : ℕ) → parent (sets_of b) j ≡ None → ArePlacedSo b j widths places → ArePlacedSo b (j + 1) widths (places ++ p ∷ [])
 skip_placed b j widths places p none s = record {
   all = length-append places (p ∷ []) ∙ ap (λ k. k + 1) s.all;
   few = λ a. let f = s.few a in omega arith;
@@ -53,11 +51,11 @@ skip_placed b j widths places p none s = record {
   };
 }
   where
-    nowhere : (e a : ℕ) → e < j + 1 → j ≤ e → home b e ≡ Some a → ⊥
-    nowhere e a lt ge h = let is : e ≡ j = omega arith in let g = sym (ap (home b) is) ∙ h in let k = none in cc
+    nowhere : (e a : ℕ) → e < j + 1 → j ≤ e → parent (sets_of b) e ≡ Some a → ⊥
+    nowhere e a lt ge h = let is : e ≡ j = omega arith in let g = sym (ap (parent (sets_of b)) is) ∙ h in let k = none in cc
 
--- an entrant that competes at a node
-pub one_placed : (b : Board) (j c : ℕ) (widths places : List ℕ) → home b j ≡ Some c → c < length widths → ArePlacedSo b j widths places → ArePlacedSo b (j + 1) (set widths c (get_or widths c 0 + 1)) (places ++ get_or widths c 0 ∷ [])
+-- a node just inside another
+pub one_placed : (b : Board) (j c : ℕ) (widths places : List ℕ) → parent (sets_of b) j ≡ Some c → c < length widths → ArePlacedSo b j widths places → ArePlacedSo b (j + 1) (set widths c (get_or widths c 0 + 1)) (places ++ get_or widths c 0 ∷ [])
 one_placed b j c widths places here lc s = record {
   all = length-append places (w ∷ []) ∙ ap (λ k. k + 1) s.all;
   few = λ a. ⊎_elim (λ e. let f = s.few c in let g = wider a e in omega arith) (λ ne. let f = s.few a in let g = same_width a ne in omega arith) (cases_eq a c);
@@ -96,10 +94,10 @@ one_placed b j c widths places here lc s = record {
     same_width : (a : ℕ) → (a ≡ c → ⊥) → get_or (set widths c (get_or widths c 0 + 1)) a 0 ≡ get_or widths a 0
     same_width a ne = get_or-set_other widths c a (get_or widths c 0 + 1) 0 ne
 
-    at_home : (e a : ℕ) → e ≡ j → home b e ≡ Some a → a ≡ c
-    at_home e a is h = some_same a c (sym h ∙ (ap (home b) is ∙ here))
+    at_home : (e a : ℕ) → e ≡ j → parent (sets_of b) e ≡ Some a → a ≡ c
+    at_home e a is h = some_same a c (sym h ∙ (ap (parent (sets_of b)) is ∙ here))
 
-    clash : (e f a : ℕ) → e < j → f ≡ j → home b e ≡ Some a → home b f ≡ Some a → get_or (places ++ get_or widths c 0 ∷ []) e 0 ≡ get_or (places ++ get_or widths c 0 ∷ []) f 0 → ⊥
+    clash : (e f a : ℕ) → e < j → f ≡ j → parent (sets_of b) e ≡ Some a → parent (sets_of b) f ≡ Some a → get_or (places ++ get_or widths c 0 ∷ []) e 0 ≡ get_or (places ++ get_or widths c 0 ∷ []) f 0 → ⊥
     clash e f a le is h g same =
         let home_is = at_home f a is g in
         let below = s.placed.within e a le h in
@@ -114,27 +112,24 @@ one_placed b j c widths places here lc s = record {
     last : (a i : ℕ) → a ≡ c → i < get_or (set widths c (get_or widths c 0 + 1)) a 0 → get_or widths a 0 ≤ i → get_or widths c 0 ≡ i
     last a i same lt ge = let g = wider a same in let f = ap (λ k. get_or widths k 0) same in omega arith
 
--- one entrant more, wherever it competes
-pub entered : (b : Board) (j : ℕ) (node : Option ℕ) (widths new places : List ℕ) (place : ℕ) → home b j ≡ node → IfSome node (λ k. k < length widths) → IsEntered node widths new place → ArePlacedSo b j widths places → ArePlacedSo b (j + 1) new (places ++ place ∷ []) × (length new ≡ length widths)
+-- one node more, wherever it lies
+pub entered : (b : Board) (j : ℕ) (node : Option ℕ) (widths new places : List ℕ) (place : ℕ) → parent (sets_of b) j ≡ node → IfSome node (λ k. k < length widths) → IsEntered node widths new place → ArePlacedSo b j widths places → ArePlacedSo b (j + 1) new (places ++ place ∷ []) × (length new ≡ length widths)
 entered b j None widths new places place h lt e s = (subst (λ w. ArePlacedSo b (j + 1) w (places ++ place ∷ [])) (sym e) (skip_placed b j widths places place h s), ap length e)
 entered b j (Some c) widths new places place h lt e s = (
   subst (λ w. ArePlacedSo b (j + 1) w (places ++ place ∷ [])) (sym e.1) (subst (λ p. ArePlacedSo b (j + 1) (set widths c (get_or widths c 0 + 1)) (places ++ p ∷ [])) (sym e.0) (one_placed b j c widths places h lt s)),
   ap length e.1 ∙ length-set widths c (get_or widths c 0 + 1),
 )
 
-pub entered_node : (b : Board) (j k : ℕ) (sets : List (List ℕ)) (node : Option ℕ) (widths : List ℕ) → sets ≡ sets_of b → length widths ≡ length b.nodes → j < 2 ^ 39 → k < 2 ^ 39 → node ≡ parent sets k → ArePlacedSo b j widths [] ⊎ ((a : ℕ) → get_or widths a 0 ≤ j) → (home b (contract_count b + k) ≡ node) × IfSome node (λ a. a < length widths) × IfSome node (λ a. get_or widths a 0 < 2 ^ 40)
-entered_node b j k sets node widths e wide small lk is few = (home_node b k ∙ (ap (λ s. parent s k) (sym e) ∙ sym is), within node (sym is), below node)
+pub entered_node : (b : Board) (k : ℕ) (sets : List (List ℕ)) (node : Option ℕ) (widths : List ℕ) → sets ≡ sets_of b → length widths ≡ length b.nodes → k < 2 ^ 39 → node ≡ parent sets k → ((a : ℕ) → get_or widths a 0 ≤ k) → (parent (sets_of b) k ≡ node) × IfSome node (λ a. a < length widths) × IfSome node (λ a. get_or widths a 0 < 2 ^ 40)
+entered_node b k sets node widths e wide lk is few = (ap (λ s. parent s k) (sym e) ∙ sym is, within node (sym is), below node)
   where
     within : (n : Option ℕ) → parent sets k ≡ n → IfSome n (λ a. a < length widths)
     within None f = tt
     within (Some a) f = let lt = parent_below sets k a f in let l = ap length e ∙ length-map b.nodes (λ n. n.leaves) in omega arith
 
-    bound : (a : ℕ) → get_or widths a 0 ≤ j
-    bound a = ⊎_elim (λ p. p.few a) (λ f. f a) few
-
     below : (n : Option ℕ) → IfSome n (λ a. get_or widths a 0 < 2 ^ 40)
     below None = tt
-    below (Some a) = let f = bound a in omega arith
+    below (Some a) = let f = few a in omega arith
 
 pub one_more : (b : Board) (n hospitals : ℕ) → ((x : ℕ) → x < n → leaf_of b x < hospitals) → leaf_of b n < hospitals → (x : ℕ) → x < n + 1 → leaf_of b x < hospitals
 one_more b n hospitals old new x lt = ⊎_elim (λ e. subst (λ w. leaf_of b w < hospitals) (sym e) new) (λ ne. old x (omega arith)) (cases_eq x n)

@@ -1,21 +1,24 @@
 -- What a holder keeps can be read off again from the mere fact that it is kept.
-use Rattle.std.proofs.Common.{◌≡◌, ◌∙◌, ◌⊎◌, ℕ, zero, suc, ◌+◌, ◌<◌, ◌≤◌, List, [], Bool, true, false, ◌&&◌, length, get_or, eqb, Option, Some, None, ℤ, ◌<ℤ◌, refl, sym, ap, subst, inl, inr, ⊎_elim, arith, eqb-true, eq-eqb}
+use Rattle.std.proofs.Common.{◌≡◌, ◌∙◌, ◌⊎◌, ℕ, zero, suc, ◌<◌, List, Bool, true, false, ◌&&◌, length, get_or, eqb, Option, Some, None, ℤ, ◌<ℤ◌, refl, ap, inl, inr, ⊎_elim, arith, eqb-true, eq-eqb}
+use Rattle.std.specs.Ordering.{nat_cmp}
+use Rattle.std.specs.BinaryHeap.{heap_items, IsHeap-prop}
 use Rattle.std.proofs.Math.Logic.{∥∥₁_elim}
 use Rattle.std.proofs.Props.{props}
 use Rattle.std.proofs.lemmas.Int.{ints}
 use Rattle.std.proofs.lemmas.Bool.{cases_eq, cases_lt, cases_Bool, and_parts, and_from}
-use Rattle.rm_sets.specs.Sets.{IsIn}
 use Rattle.rm_sets.proofs.Sets.{not_both}
-use Rattle.rm_market.specs.Board.{Board, contract_count}
-use Rattle.rm_market.specs.Tree.{equals_number}
+use Rattle.rm_market.specs.Board.{Board, sets_of}
+use Rattle.rm_market.specs.Tree.{parent, equals_number}
 use Rattle.rm_valuation_laws.specs.Scores.{place}
 use Rattle.rm_valuation_laws.proofs.Score.{cases_int}
 use Rattle.rm_exchange.specs.declared.removal.Removal.{Removal}
 use Rattle.rm_exchange.specs.declared.holding.Holding.{Holding}
-use Rattle.rm_exchange.specs.Entrants.{home, ComesFirst, IsLeast, IsLeastOf}
-use Rattle.rm_exchange.specs.Holding.{entrants, ArePlaced, IsAllKept}
+use Rattle.rm_exchange.specs.Entrants.{ComesFirstOf, IsLeastOf}
+use Rattle.rm_exchange.specs.declared.leaf.Leaf.{Leaf}
+use Rattle.rm_exchange.specs.Leaves.{IsGreatestOf, IsLeafOf}
+use Rattle.rm_exchange.specs.Holding.{IsAllKept}
 
-first_from : (l : ℤ) (t : ℕ) (m : ℤ) (u : ℕ) → ∥ ComesFirst l t m u ∥₁ → ComesFirst l t m u
+first_from : (l : ℤ) (t : ℕ) (m : ℤ) (u : ℕ) → ∥ ComesFirstOf l t m u ∥₁ → ComesFirstOf l t m u
 first_from l t m u h =
     ⊎_elim
     (λ lt. inl lt)
@@ -28,11 +31,11 @@ first_from l t m u h =
     rest)
     (cases_int l m)
   where
-    tied : ComesFirst l t m u → l ≡ m → t < u → ⊥
+    tied : ComesFirstOf l t m u → l ≡ m → t < u → ⊥
     tied (inl lt) e less = omega (arith, ints)
     tied (inr tie) e less = let le = tie.1 in omega arith
 
-    above : ComesFirst l t m u → m <ℤ l → ⊥
+    above : ComesFirstOf l t m u → m <ℤ l → ⊥
     above (inl lt) gt = omega (arith, ints)
     above (inr tie) gt = let e = tie.0 in omega (arith, ints)
 
@@ -67,12 +70,32 @@ number_is (Some k) a e = ap (λ w. Some w) (eqb-true k a e)
 is_number_of : (o : Option ℕ) (a : ℕ) → o ≡ Some a → equals_number o a ≡ true
 is_number_of o a e = ap (λ w. equals_number w a) e ∙ eq-eqb a a refl
 
-found_from : (b : Board) (places : List ℕ) (j a i : ℕ) → ∥ ((e : ℕ) × (e < j) × (home b e ≡ Some a) × (get_or places e 0 ≡ i)) ∥₁ → (e : ℕ) × (e < j) × (home b e ≡ Some a) × (get_or places e 0 ≡ i)
+found_from : (b : Board) (places : List ℕ) (j a i : ℕ) → ∥ ((e : ℕ) × (e < j) × (parent (sets_of b) e ≡ Some a) × (get_or places e 0 ≡ i)) ∥₁ → (e : ℕ) × (e < j) × (parent (sets_of b) e ≡ Some a) × (get_or places e 0 ≡ i)
 found_from b places j a i t =
     ⊎_elim
-    (λ found. let both = and_parts (equals_number (home b found.0) a) (eqb (get_or places found.0 0) i) found.2 in (found.0, found.1, number_is (home b found.0) a both.0, eqb-true (get_or places found.0 0) i both.1))
-    (λ none. absurd (∥∥₁_elim t (Prim.hlevel props) (λ f. not_both (equals_number (home b f.0) a && eqb (get_or places f.0 0) i) (and_from (equals_number (home b f.0) a) (eqb (get_or places f.0 0) i) (is_number_of (home b f.0) a f.2) (eq-eqb (get_or places f.0 0) i f.3)) (none f.0 f.1))))
-    (some_below (λ e. equals_number (home b e) a && eqb (get_or places e 0) i) j)
+    (λ found. let both = and_parts (equals_number (parent (sets_of b) found.0) a) (eqb (get_or places found.0 0) i) found.2 in (found.0, found.1, number_is (parent (sets_of b) found.0) a both.0, eqb-true (get_or places found.0 0) i both.1))
+    (λ none. absurd (∥∥₁_elim t (Prim.hlevel props) (λ f. not_both (equals_number (parent (sets_of b) f.0) a && eqb (get_or places f.0 0) i) (and_from (equals_number (parent (sets_of b) f.0) a) (eqb (get_or places f.0 0) i) (is_number_of (parent (sets_of b) f.0) a f.2) (eq-eqb (get_or places f.0 0) i f.3)) (none f.0 f.1))))
+    (some_below (λ e. equals_number (parent (sets_of b) e) a && eqb (get_or places e 0) i) j)
+
+greatest_from : (ties items : List ℕ) (o : Option Removal) → ∥ IsGreatestOf ties items o ∥₁ → IsGreatestOf ties items o
+greatest_from ties items None t = ∥∥₁_elim t (Prim.hlevel props) (λ f. f)
+greatest_from ties items (Some r) t = record {
+  own = record {
+    contract = refl;
+    tie = ∥∥₁_elim t (Prim.hlevel props) (λ k. k.own.tie);
+    loss = ∥∥₁_elim t (Prim.hlevel props) (λ k. k.own.loss);
+  };
+  member = ∥∥₁_elim t (Prim.hlevel props) (λ k. k.member);
+  greatest = λ y i. ∥∥₁_elim t (Prim.hlevel props) (λ k. k.greatest y i);
+}
+
+leaf_from : (b : Board) (H : List ℕ) (h : ℕ) (leaf : Leaf) → ∥ IsLeafOf b H h leaf ∥₁ → IsLeafOf b H h leaf
+leaf_from b H h leaf t = record {
+  same = λ p. ∥∥₁_elim t (Prim.hlevel props) (λ k. k.same p);
+  room = ∥∥₁_elim t (Prim.hlevel props) (λ k. k.room);
+  order = ∥∥₁_elim t (IsHeap-prop nat_cmp (heap_items leaf.held)) (λ k. k.order);
+  best = greatest_from b.ties (heap_items leaf.held) leaf.best (∥∥₁_elim t (Prim.hlevel props) (λ k. ∣ k.best ∣₁));
+}
 
 pub kept_from : (b : Board) (places : List ℕ) (h : Holding) → ∥ IsAllKept b places h ∥₁ → IsAllKept b places h
 kept_from b places h t = record {
@@ -83,10 +106,14 @@ kept_from b places h t = record {
   all_nodes = ∥∥₁_elim t (Prim.hlevel props) (λ k. k.all_nodes);
   all_placed = ∥∥₁_elim t (Prim.hlevel props) (λ k. k.all_placed);
   counted = ∥∥₁_elim t (Prim.hlevel props) (λ k. k.counted);
+  leaves = record {
+    all = ∥∥₁_elim t (Prim.hlevel props) (λ k. k.leaves.all);
+    each = λ a d la. leaf_from b _ a _ (∥∥₁_elim t (Prim.hlevel props) (λ k. ∣ k.leaves.each a d la ∣₁));
+  };
   placed = record {
     within = λ e a lt hm. ∥∥₁_elim t (Prim.hlevel props) (λ k. k.placed.within e a lt hm);
     once = λ e f a le lf hm g s. ∥∥₁_elim t (Prim.hlevel props) (λ k. k.placed.once e f a le lf hm g s);
-    filled = λ a i la lt. found_from b places (entrants b) a i (∥∥₁_elim t (Prim.hlevel props) (λ k. ∣ k.placed.filled a i la lt ∣₁));
+    filled = λ a i la lt. found_from b places (length b.nodes) a i (∥∥₁_elim t (Prim.hlevel props) (λ k. ∣ k.placed.filled a i la lt ∣₁));
   };
   entries = λ e a le hm all. least_from b.ties _ _ _ _ _ (∥∥₁_elim t (Prim.hlevel props) (λ k. ∣ k.entries e a le hm all ∣₁));
 }

@@ -26,31 +26,31 @@ use Rattle.rm_valuation.proofs.Counted.{count_of}
 use Rattle.std.proofs.lemmas.Option.{slice_get-get_or, slice_get_within, get_or_from_slice_get}
 use Rattle.rm_exchange.specs.declared.removal.Removal.{Removal}
 use Rattle.rm_exchange.specs.declared.prospects.Swap.{Swap}
-use Rattle.rm_exchange.specs.Entrants.{HasHospitals, inner_cost, ComesFirst, IsBestAt}
-use Rattle.rm_exchange.specs.Prospects.{swap_change, IsNoBetter, IsBestSwap, IsBestSwapOf, exceeds, better_swap, IsRated, AreProspects}
+use Rattle.rm_exchange.specs.Entrants.{HasHospitals, inner_cost, ComesFirstOf, IsBestAt}
+use Rattle.rm_exchange.specs.Prospects.{swap_change, IsNoGreater, IsBestRated, IsBestRatedOf, exceeds, greater_swap, IsRated, AreProspects}
 use Rattle.rm_exchange.proofs.Homes.{holds_from}
 use Rattle.rm_exchange.proofs.Mending.{InRange, first_node, later_in}
 use Rattle.rm_exchange.proofs.CheapestSwap.{inner_gain, rate, rate_low, rate_is, prior, under_prior, chain_node, inside_prior, prior_in, prior_under, gain_before}
 
 -- ---- the better of two swaps
 
-no_better_trans : (c : ℤ) (t : ℕ) (d : ℤ) (u : ℕ) (e : ℤ) (v : ℕ) → IsNoBetter c t d u → IsNoBetter d u e v → IsNoBetter c t e v
+no_better_trans : (c : ℤ) (t : ℕ) (d : ℤ) (u : ℕ) (e : ℤ) (v : ℕ) → IsNoGreater c t d u → IsNoGreater d u e v → IsNoGreater c t e v
 no_better_trans c t d u e v p q = grind (arith, ints)
 
 exceeds_is : (old new : Swap) → exceeds old new ≡ true → (old.change <ℤ new.change) ⊎ ((old.change ≡ new.change) × (old.tie < new.tie))
 exceeds_is old new t = grind (arith, ints)
 
-exceeds_isnt : (old new : Swap) → exceeds old new ≡ false → IsNoBetter new.change new.tie old.change old.tie
+exceeds_isnt : (old new : Swap) → exceeds old new ≡ false → IsNoGreater new.change new.tie old.change old.tie
 exceeds_isnt old new t = grind (arith, ints)
 
 -- a swap that is exceeded by the rating of another isn't as good as that one
-not_exceeded : (rated change other : ℤ) (tie other_tie : ℕ) → (other <ℤ rated) ⊎ ((other ≡ rated) × (other_tie < tie)) → rated ≤ℤ change → IsNoBetter change tie other other_tie → ⊥
+not_exceeded : (rated change other : ℤ) (tie other_tie : ℕ) → (other <ℤ rated) ⊎ ((other ≡ rated) × (other_tie < tie)) → rated ≤ℤ change → IsNoGreater change tie other other_tie → ⊥
 not_exceeded rated change other tie other_tie (inl a) le (inl b) = omega (arith, ints)
 not_exceeded rated change other tie other_tie (inl a) le (inr b) = let e = b.0 in omega (arith, ints)
 not_exceeded rated change other tie other_tie (inr a) le (inl b) = let e = a.0 in omega (arith, ints)
 not_exceeded rated change other tie other_tie (inr a) le (inr b) = let l = a.1 in let m = b.1 in omega arith
 
-weaker : (c : ℤ) (t : ℕ) (d : ℤ) (u : ℕ) → (c <ℤ d) ⊎ ((c ≡ d) × (t < u)) → IsNoBetter c t d u
+weaker : (c : ℤ) (t : ℕ) (d : ℤ) (u : ℕ) → (c <ℤ d) ⊎ ((c ≡ d) × (t < u)) → IsNoGreater c t d u
 weaker c t d u (inl a) = inl a
 weaker c t d u (inr a) = inr (a.0, (let l = a.1 in omega arith))
 
@@ -68,7 +68,7 @@ pub record IsWalked (b : Board) (H : List ℕ) (x : ℕ) (nodes : List ℕ) (i :
   pub low : (pos 0 -ℤ pos (i * 1000000000)) ≤ℤ gained
   pub high : gained ≤ℤ pos (i * 1000000000)
   pub free : (k : ℕ) → k < length b.nodes → test_at b k x ≡ true → under_prior b nodes i k ≡ true → ¬ IsFull b H (node_at b k)
-  pub best : IsBestSwapOf b H x (prior b nodes i) swap
+  pub best : IsBestRatedOf b H x (prior b nodes i) swap
 
 pub walk_start : (b : Board) (H : List ℕ) (x : ℕ) (nodes : List ℕ) → IsWalked b H x nodes 0 (pos 0) None
 unfolding prior under_prior
@@ -99,16 +99,16 @@ step_at b plan H sH x lx nodes ch i lt gained swap w =
           ∙ rate_is b plan.concave H a x z here.0 here.1 t (λ k lk kx kz inside. not_both (prior b nodes i z) (prior_under b nodes i k z (sym (inside_prior b plan x lx nodes ch i lt k lk kx) ∙ inside) kz) new);
     }
 
-fresh_below : (b : Board) (H : List ℕ) (x : ℕ) (before : ℕ → Bool) (a : ℕ) (gained : ℤ) (r : Removal) (n : Swap) → IsStep b H x before a gained → IsBestAt b H a (Some r) → n.change ≡ gained -ℤ r.loss → n.tie ≡ r.tie → (y : ℕ) → IsIn y H → test_at b a y ≡ true → before y ≡ false → IsNoBetter (swap_change b H x y) (place b.ties y) n.change n.tie
+fresh_below : (b : Board) (H : List ℕ) (x : ℕ) (before : ℕ → Bool) (a : ℕ) (gained : ℤ) (r : Removal) (n : Swap) → IsStep b H x before a gained → IsBestAt b H a (Some r) → n.change ≡ gained -ℤ r.loss → n.tie ≡ r.tie → (y : ℕ) → IsIn y H → test_at b a y ≡ true → before y ≡ false → IsNoGreater (swap_change b H x y) (place b.ties y) n.change n.tie
 fresh_below b H x before a gained r n s best change tie y inH t new =
     less (inner_cost b H a r.contract) (place b.ties r.contract) (inner_cost b H a y) (place b.ties y) gained r.loss (swap_change b H x y) n.change n.tie best.loss (s.exact y inH t new) change (tie ∙ best.tie) (best.least y inH t)
   where
-    less : (l : ℤ) (t : ℕ) (m : ℤ) (u : ℕ) (g k c d : ℤ) (v : ℕ) → k ≡ l → (g -ℤ m) ≡ c → d ≡ g -ℤ k → v ≡ t → ComesFirst l t m u → IsNoBetter c u d v
+    less : (l : ℤ) (t : ℕ) (m : ℤ) (u : ℕ) (g k c d : ℤ) (v : ℕ) → k ≡ l → (g -ℤ m) ≡ c → d ≡ g -ℤ k → v ≡ t → ComesFirstOf l t m u → IsNoGreater c u d v
     less l t m u g k c d v e f h o (inl lt) = inl (omega (arith, ints))
     less l t m u g k c d v e f h o (inr tie) = let same = tie.0 in let le = tie.1 in inr (omega (arith, ints), omega arith)
 
 new_best : (b : Board) (H : List ℕ) (x : ℕ) (before : ℕ → Bool) (a : ℕ) (gained : ℤ) (r : Removal) (n : Swap) → IsStep b H x before a gained → IsBestAt b H a (Some r) → n.contract ≡ r.contract → n.change ≡ gained -ℤ r.loss → n.tie ≡ r.tie → before r.contract ≡ false
-    → ((y : ℕ) → IsIn y H → before y ≡ true → IsNoBetter (swap_change b H x y) (place b.ties y) n.change n.tie) → IsBestSwap b H x (test_at b a) n
+    → ((y : ℕ) → IsIn y H → before y ≡ true → IsNoGreater (swap_change b H x y) (place b.ties y) n.change n.tie) → IsBestRated b H x (test_at b a) n
 new_best b H x before a gained r n s best contract change tie new older = record {
   held = subst (λ w. IsIn w H) (sym contract) best.held;
   passes = ap (test_at b a) contract ∙ best.passes;
@@ -117,7 +117,7 @@ new_best b H x before a gained r n s best contract change tie new older = record
   best = λ y inH t. ⊎_elim (λ old. older y inH old) (λ fresh. fresh_below b H x before a gained r n s best change tie y inH t fresh) (cases_Bool (before y));
 }
 
-swap_compared : (b : Board) (H : List ℕ) (x : ℕ) (before : ℕ → Bool) (a : ℕ) (gained : ℤ) (t n : Swap) (r : Removal) → IsStep b H x before a gained → IsBestSwap b H x before t → IsBestAt b H a (Some r) → n.contract ≡ r.contract → n.change ≡ gained -ℤ r.loss → n.tie ≡ r.tie → (c : Bool) → exceeds t n ≡ c → IsBestSwapOf b H x (test_at b a) (better_swap (Some t) (Some n))
+swap_compared : (b : Board) (H : List ℕ) (x : ℕ) (before : ℕ → Bool) (a : ℕ) (gained : ℤ) (t n : Swap) (r : Removal) → IsStep b H x before a gained → IsBestRated b H x before t → IsBestAt b H a (Some r) → n.contract ≡ r.contract → n.change ≡ gained -ℤ r.loss → n.tie ≡ r.tie → (c : Bool) → exceeds t n ≡ c → IsBestRatedOf b H x (test_at b a) (greater_swap (Some t) (Some n))
 swap_compared b H x before a gained t n r s old best contract change tie true e =
     let above = exceeds_is t n e in
     let new : before r.contract ≡ false =
@@ -127,10 +127,10 @@ swap_compared b H x before a gained t n r s old best contract change tie true e 
     (λ no. no)
     (cases_Bool (before r.contract))
     in
-    subst (IsBestSwapOf b H x (test_at b a)) (sym (ap (λ d. cond d (Some n) (Some t)) e))
+    subst (IsBestRatedOf b H x (test_at b a)) (sym (ap (λ d. cond d (Some n) (Some t)) e))
     (new_best b H x before a gained r n s best contract change tie new (λ y inH yes. no_better_trans (swap_change b H x y) (place b.ties y) t.change t.tie n.change n.tie (old.best y inH yes) (weaker t.change t.tie n.change n.tie above)))
 swap_compared b H x before a gained t n r s old best contract change tie false e =
-    let kept : IsBestSwapOf b H x (test_at b a) (Some t) = record {
+    let kept : IsBestRatedOf b H x (test_at b a) (Some t) = record {
       held = old.held;
       passes = s.within t.contract old.passes;
       tie = old.tie;
@@ -140,27 +140,27 @@ swap_compared b H x before a gained t n r s old best contract change tie false e
           (λ no. no_better_trans (swap_change b H x y) (place b.ties y) n.change n.tie t.change t.tie (fresh_below b H x before a gained r n s best change tie y inH here no) (exceeds_isnt t n e))
           (cases_Bool (before y));
     } in
-    subst (IsBestSwapOf b H x (test_at b a)) (sym (ap (λ d. cond d (Some n) (Some t)) e)) kept
+    subst (IsBestRatedOf b H x (test_at b a)) (sym (ap (λ d. cond d (Some n) (Some t)) e)) kept
 
-swap_step : (b : Board) (H : List ℕ) (x : ℕ) (before : ℕ → Bool) (a : ℕ) (gained : ℤ) (swap : Option Swap) (o : Option Removal) (next : Option Swap) → IsStep b H x before a gained → IsBestSwapOf b H x before swap → IsBestAt b H a o → IsRated gained o next → IsBestSwapOf b H x (test_at b a) (better_swap swap next)
-swap_step b H x before a gained None None next s old best rated = subst (λ r. IsBestSwapOf b H x (test_at b a) (better_swap None r)) (sym rated) best
+swap_step : (b : Board) (H : List ℕ) (x : ℕ) (before : ℕ → Bool) (a : ℕ) (gained : ℤ) (swap : Option Swap) (o : Option Removal) (next : Option Swap) → IsStep b H x before a gained → IsBestRatedOf b H x before swap → IsBestAt b H a o → IsRated gained o next → IsBestRatedOf b H x (test_at b a) (greater_swap swap next)
+swap_step b H x before a gained None None next s old best rated = subst (λ r. IsBestRatedOf b H x (test_at b a) (greater_swap None r)) (sym rated) best
 swap_step b H x before a gained (Some t) None next s old best rated = absurd (not_both (test_at b a t.contract) (s.within t.contract old.passes) (best t.contract old.held))
 swap_step b H x before a gained None (Some r) next s old best rated =
     let n : Swap = record { contract = r.contract; tie = r.tie; change = gained -ℤ r.loss } in
-    subst (λ w. IsBestSwapOf b H x (test_at b a) (better_swap None w)) (sym rated)
+    subst (λ w. IsBestRatedOf b H x (test_at b a) (greater_swap None w)) (sym rated)
     (new_best b H x before a gained r n s best refl refl refl (old r.contract best.held) (λ y inH t. absurd (not_both (before y) t (old y inH))))
 swap_step b H x before a gained (Some t) (Some r) next s old best rated =
     let n : Swap = record { contract = r.contract; tie = r.tie; change = gained -ℤ r.loss } in
-    subst (λ w. IsBestSwapOf b H x (test_at b a) (better_swap (Some t) w)) (sym rated) (swap_compared b H x before a gained t n r s old best refl refl refl (exceeds t n) refl)
+    subst (λ w. IsBestRatedOf b H x (test_at b a) (greater_swap (Some t) w)) (sym rated) (swap_compared b H x before a gained t n r s old best refl refl refl (exceeds t n) refl)
 
-pub walked_swap : (b : Board) → HasHospitals b → (H : List ℕ) → IsSet H → (x : ℕ) → x < contract_count b → (nodes : List ℕ) → IsOrderedChain (sets_of b) (leaf_of b x) nodes → (i : ℕ) → i < length nodes → (gained : ℤ) (swap : Option Swap) (o : Option Removal) (next : Option Swap) → IsWalked b H x nodes i gained swap → IsBestAt b H (get_or nodes i 0) o → IsRated gained o next → IsBestSwapOf b H x (test_at b (get_or nodes i 0)) (better_swap swap next)
+pub walked_swap : (b : Board) → HasHospitals b → (H : List ℕ) → IsSet H → (x : ℕ) → x < contract_count b → (nodes : List ℕ) → IsOrderedChain (sets_of b) (leaf_of b x) nodes → (i : ℕ) → i < length nodes → (gained : ℤ) (swap : Option Swap) (o : Option Removal) (next : Option Swap) → IsWalked b H x nodes i gained swap → IsBestAt b H (get_or nodes i 0) o → IsRated gained o next → IsBestRatedOf b H x (test_at b (get_or nodes i 0)) (greater_swap swap next)
 walked_swap b plan H sH x lx nodes ch i lt gained swap o next w best rated = swap_step b H x (prior b nodes i) (get_or nodes i 0) gained swap o next (step_at b plan H sH x lx nodes ch i lt gained swap w) w.best best rated
 
 free_up : (b : Board) → HasHospitals b → (H : List ℕ) (x : ℕ) → x < contract_count b → (nodes : List ℕ) → IsOrderedChain (sets_of b) (leaf_of b x) nodes → (i : ℕ) → i < length nodes → (gained : ℤ) (swap : Option Swap) → IsWalked b H x nodes i gained swap → (k : ℕ) → k < length b.nodes → test_at b k x ≡ true → is_inside (sets_of b) k (get_or nodes i 0) ≡ true → ¬ IsFull b H (node_at b k)
 free_up b plan H x lx nodes ch i lt gained swap w k lk kx inside = w.free k lk kx (sym (inside_prior b plan x lx nodes ch i lt k lk kx) ∙ inside)
 
 -- the node isn't full
-pub walk_more : (b : Board) → HasHospitals b → (H : List ℕ) (x : ℕ) → x < contract_count b → (nodes : List ℕ) → IsOrderedChain (sets_of b) (leaf_of b x) nodes → (i : ℕ) → i < length nodes → (gained : ℤ) (swap next : Option Swap) (step : ℤ) → IsWalked b H x nodes i gained swap → IsBestSwapOf b H x (test_at b (get_or nodes i 0)) next → step ≡ next_step b H (node_at b (get_or nodes i 0)) → InRange step → ¬ IsFull b H (node_at b (get_or nodes i 0)) → IsWalked b H x nodes (i + 1) (gained +ℤ step) next
+pub walk_more : (b : Board) → HasHospitals b → (H : List ℕ) (x : ℕ) → x < contract_count b → (nodes : List ℕ) → IsOrderedChain (sets_of b) (leaf_of b x) nodes → (i : ℕ) → i < length nodes → (gained : ℤ) (swap next : Option Swap) (step : ℤ) → IsWalked b H x nodes i gained swap → IsBestRatedOf b H x (test_at b (get_or nodes i 0)) next → step ≡ next_step b H (node_at b (get_or nodes i 0)) → InRange step → ¬ IsFull b H (node_at b (get_or nodes i 0)) → IsWalked b H x nodes (i + 1) (gained +ℤ step) next
 unfolding prior under_prior
 walk_more b plan H x lx nodes ch i lt gained swap next step w best is range room =
     let same = w.same in
@@ -178,7 +178,7 @@ walk_more b plan H x lx nodes ch i lt gained swap next step w best is range room
     })
 
 -- the node is full
-pub walk_full : (b : Board) → HasHospitals b → (H : List ℕ) (x : ℕ) → x < contract_count b → (nodes : List ℕ) → IsOrderedChain (sets_of b) (leaf_of b x) nodes → (i : ℕ) → i < length nodes → (gained : ℤ) (swap next : Option Swap) → IsWalked b H x nodes i gained swap → IsBestSwapOf b H x (test_at b (get_or nodes i 0)) next → IsFull b H (node_at b (get_or nodes i 0)) → AreProspects b H x (record { swap = next; addition = None })
+pub walk_full : (b : Board) → HasHospitals b → (H : List ℕ) (x : ℕ) → x < contract_count b → (nodes : List ℕ) → IsOrderedChain (sets_of b) (leaf_of b x) nodes → (i : ℕ) → i < length nodes → (gained : ℤ) (swap next : Option Swap) → IsWalked b H x nodes i gained swap → IsBestRatedOf b H x (test_at b (get_or nodes i 0)) next → IsFull b H (node_at b (get_or nodes i 0)) → AreProspects b H x (record { swap = next; addition = None })
 walk_full b plan H x lx nodes ch i lt gained swap next w best full =
     let here = chain_node b plan x nodes ch i lt in
     record {

@@ -3,5 +3,6 @@ pub mod Swaps
 pub mod RowsBelow
 pub mod Removals
 pub mod Entrants
+pub mod Leaves
 pub mod Holding
 pub mod Prospects

@@ -20,30 +20,30 @@ abbrev pub swap_change : Board → List ℕ → ℕ → ℕ → ℤ
 swap_change b H x z = swap_gain b H x z -ℤ swap_loss b H x z
 
 -- of the changes and the places in tie order of two swaps: the second one changes the worth by more, or by as much, and isn't first in tie order
-abbrev pub IsNoBetter : ℤ → ℕ → ℤ → ℕ → Type 0
-IsNoBetter change tie other_change other_tie = (change <ℤ other_change) ⊎ ((change ≡ other_change) × (tie ≤ other_tie))
+abbrev pub IsNoGreater : ℤ → ℕ → ℤ → ℕ → Type 0
+IsNoGreater change tie other_change other_tie = (change <ℤ other_change) ⊎ ((change ≡ other_change) × (tie ≤ other_tie))
 
 -- the best swap of x for a held contract that passes the test
-pub record IsBestSwap (b : Board) (H : List ℕ) (x : ℕ) (test : ℕ → Bool) (s : Swap) : Type 0 where
+pub record IsBestRated (b : Board) (H : List ℕ) (x : ℕ) (test : ℕ → Bool) (s : Swap) : Type 0 where
   pub held : IsIn s.contract H
   pub passes : IsTrue (test s.contract)
   pub tie : s.tie ≡ place b.ties s.contract
   pub change : s.change ≡ swap_change b H x s.contract
-  pub best : (y : ℕ) → IsIn y H → IsTrue (test y) → IsNoBetter (swap_change b H x y) (place b.ties y) s.change s.tie
+  pub best : (y : ℕ) → IsIn y H → IsTrue (test y) → IsNoGreater (swap_change b H x y) (place b.ties y) s.change s.tie
 
 -- that swap, or that there is none
-abbrev pub IsBestSwapOf : Board → List ℕ → ℕ → (ℕ → Bool) → Option Swap → Type 0
-IsBestSwapOf b H x test (Some s) = IsBestSwap b H x test s
-IsBestSwapOf b H x test None = (y : ℕ) → IsIn y H → IsFalse (test y)
+abbrev pub IsBestRatedOf : Board → List ℕ → ℕ → (ℕ → Bool) → Option Swap → Type 0
+IsBestRatedOf b H x test (Some s) = IsBestRated b H x test s
+IsBestRatedOf b H x test None = (y : ℕ) → IsIn y H → IsFalse (test y)
 
 -- the better of two
 abbrev pub exceeds : Swap → Swap → Bool
 exceeds old new = int_lt old.change new.change || (int_eq old.change new.change && nat_lt old.tie new.tie)
 
-abbrev pub better_swap : Option Swap → Option Swap → Option Swap
-better_swap None next = next
-better_swap (Some old) None = Some old
-better_swap (Some old) (Some new) = if exceeds old new then Some new else Some old
+abbrev pub greater_swap : Option Swap → Option Swap → Option Swap
+greater_swap None next = next
+greater_swap (Some old) None = Some old
+greater_swap (Some old) (Some new) = if exceeds old new then Some new else Some old
 
 -- the swap for a removal
 abbrev pub IsRated : ℤ → Option Removal → Option Swap → Type 0
@@ -53,9 +53,9 @@ IsRated gain (Some r) swap = swap ≡ Some (record { contract = r.contract; tie 
 -- ---- the end of the walk
 
 -- at node k: it is full; or no node of x is full and each lies within it, and so much does the addition of x change
-abbrev pub IsAddition : Board → List ℕ → ℕ → ℕ → Option ℤ → Type 0
-IsAddition b H x k None = IsFull b H (node_at b k)
-IsAddition b H x k (Some change) = IsTrue (is_feasible b (with_one H x)) × (change ≡ gain b H x) × ((l : ℕ) → l < length b.nodes → IsTrue (test_at b l x) → IsInside (test_at b l) (test_at b k))
+abbrev pub IsOwnAddition : Board → List ℕ → ℕ → ℕ → Option ℤ → Type 0
+IsOwnAddition b H x k None = IsFull b H (node_at b k)
+IsOwnAddition b H x k (Some change) = IsTrue (is_feasible b (with_one H x)) × (change ≡ gain b H x) × ((l : ℕ) → l < length b.nodes → IsTrue (test_at b l x) → IsInside (test_at b l) (test_at b k))
 
 -- no node of x inside the node is full; the best swap for a contract of that node; and the addition
 pub record AreProspects (b : Board) (H : List ℕ) (x : ℕ) (p : Prospects) : Type 0 where
@@ -63,8 +63,8 @@ pub record AreProspects (b : Board) (H : List ℕ) (x : ℕ) (p : Prospects) : T
   pub below : node < length b.nodes
   pub has_x : IsTrue (test_at b node x)
   pub free : (l : ℕ) → l < length b.nodes → IsTrue (test_at b l x) → IsTrue (is_inside (sets_of b) l node) → ¬ IsFull b H (node_at b l)
-  pub swap : IsBestSwapOf b H x (test_at b node) p.swap
-  pub addition : IsAddition b H x node p.addition
+  pub swap : IsBestRatedOf b H x (test_at b node) p.swap
+  pub addition : IsOwnAddition b H x node p.addition
 
 -- ---- the decision
 

@@ -3,15 +3,17 @@
 ghost use Rattle.std.specs.Prelude.{◌≡◌, ◌<◌, ◌^◌, ℕ, List, [], All, false, None, length, get_or, map, replicate, IfOk, IsFalse};
 ghost use Rattle.rm_sets.specs.Sets.{has, with_one, IsSetBelow};
 ghost use Rattle.rm_sets.proofs.Sets.{IsSetBelow-all_below};
-ghost use Rattle.rm_market.specs.Board.{contract_count};
+ghost use Rattle.rm_market.specs.Board.{contract_count, leaf_of};
 ghost use Rattle.rm_market.specs.Best.{IsBest, best_of, values_of};
 ghost use Rattle.rm_market.specs.Machine.{IsOutcome};
 ghost use Rattle.rm_valuation_laws.specs.Changes.{IsConcaveBoard};
 ghost use Rattle.rm_valuation_laws.proofs.BestOf.{concave_choice};
 ghost use Rattle.rm_valuation.specs.Counts.{IsMarketBoard};
+ghost use Rattle.rm_exchange.specs.Leaves.{AreLeaves};
 ghost use Rattle.rm_exchange.specs.Holding.{held_in, IsAllKept, IsHolding};
 
 use crate::holding::{Holding, hold, release};
+use crate::leaf::empty_leaves;
 use crate::places::all_places;
 use crate::prospects::{decide, walk};
 use crate::tournament::Tournament;
@@ -24,7 +26,8 @@ use std::alloc::Global;
 /// An offer displaces at most one held contract. It walks along its chain of nodes up to the first full one, and at each of
 /// them looks at the one held contract whose removal loses least there; then it mends what is kept along its own chain, and
 /// along that of the contract that it displaces. So an offer costs the sum, over the nodes of these two chains, of the
-/// logarithms of how many contracts or nodes lie just inside each (Kojima, Tamura and Yokoo 2018, the laminar case).
+/// logarithms of how many held contracts the hospital has, or how many nodes lie just inside the group (Kojima, Tamura and
+/// Yokoo 2018, the laminar case).
 #[derive(Drop)]
 pub struct FastHolder<'a> {
     board: &'a Board,
@@ -88,11 +91,14 @@ fn nothing(alloc: Global, board: &Board, widths: &[usize]) -> Result<Holding, No
     requires { All (λ width. width < 2 ^ 40) widths.now }
     ensures counts { IfOk result (λ h. h.counts.items ≡ replicate (length board.now.nodes) 0) }
     ensures marks { IfOk result (λ h. h.marks.items ≡ replicate (contract_count board.now) false) }
+    ensures leaves { IfOk result (λ h. AreLeaves board.now [] h.leaves.items) }
+    ensures hospitals { IfOk result (λ h. (x : ℕ) → x < contract_count board.now → leaf_of board.now x < length board.now.ranks) }
     ensures rivals { IfOk result (λ h. h.rivals.items ≡ map (λ width. replicate width None) widths.now) }
 {
     let nodes = board.tree().nodes();
     let counts = vec![in alloc; 0; nodes as usize]?;
     let marks = vec![in alloc; false; board.contracts() as usize]?;
+    let leaves = empty_leaves(alloc, board)?;
     let mut rivals = Vec::with_capacity(alloc, widths.len())?;
     for i in 0..widths.len() {
         rivals.push(Tournament::new(alloc, widths[i])?)?;
@@ -100,6 +106,7 @@ fn nothing(alloc: Global, board: &Board, widths: &[usize]) -> Result<Holding, No
     Ok(Holding {
         counts,
         marks,
+        leaves,
         rivals,
     })
 }
@@ -114,7 +121,7 @@ fn offer(board: &Board, places: &[usize], holding: &mut Holding, x: u32) -> Outc
     ensures outcome { IsOutcome (held_in board.now holding.old) x (held_in board.now holding.new) result }
 {
     let prospects = walk(board, holding, x);
-    match decide(prospects, board.tie(x)) {
+    match decide(board, prospects, x) {
         Outcome::Kept => {
             hold(board, places, holding, x);
             Outcome::Kept

@@ -1,23 +1,27 @@
 // The held contracts by node, mended along one chain as a contract comes or goes.
 
-ghost use Rattle.std.specs.Prelude.{◌≡◌, ◌<◌, ◌≤◌, ◌-ℤ◌, ◌≤ℤ◌, pos, [], length, get_or, set, IsFalse, IfSome};
+ghost use Rattle.std.specs.Prelude.{◌≡◌, ◌<◌, ◌≤◌, ◌-ℤ◌, ◌≤ℤ◌, pos, ℕ, List, [], length, get_or, set, IsFalse, IfSome};
 ghost use Rattle.rm_sets.specs.Sets.{has, IsIn, with_one, without};
-ghost use Rattle.rm_market.specs.Board.{contract_count, leaf_of, sets_of};
+ghost use Rattle.rm_market.specs.Board.{Board as MarketBoard, contract_count, leaf_of, sets_of};
 ghost use Rattle.rm_market.specs.Tree.{chain};
 ghost use Rattle.rm_exchange.specs.Removals.{IsCheapestOf};
-ghost use Rattle.rm_exchange.specs.Entrants.{IsEntry};
-ghost use Rattle.rm_exchange.specs.Holding.{held_in, held_of, IsAllKept, IsKeptBut, IsFurther};
+ghost use Rattle.rm_exchange.specs.Entrants.{HasHospitals, IsBestAt};
+ghost use Rattle.rm_exchange.specs.Leaves.{AreLeaves};
+ghost use Rattle.rm_exchange.specs.Holding.{held_in, IsAllKept, IsKeptBut, IsFurther};
 
+use crate::leaf::{Leaf, put_in, take_greatest};
 use crate::removal::Removal;
 use crate::tournament::Tournament;
 use rm_board::Board;
 use rm_valuation::{count_in, count_out, last_step};
 
-// What is held: the counts of the nodes, a mark for each contract, and at each node the rivals for removal.
+// What is held: the counts of the nodes, a mark for each contract, the leaf of each hospital, and at each node the rivals for
+// removal, which are the nodes just inside.
 #[derive(Drop)]
 pub struct Holding {
     pub counts: Vec<u32>,
     pub marks: Vec<bool>,
+    pub leaves: Vec<Leaf>,
     pub rivals: Vec<Tournament>,
 }
 
@@ -28,6 +32,17 @@ pub(crate) fn chain_of(board: &Board, x: u32) -> &[u32]
 {
     let tree = board.tree();
     tree.chain(board.leaf(x))
+}
+
+// The held contract of a node that is the cheapest to displace there.
+pub(crate) fn cheapest_at(holding: &Holding, node: u32) -> Option<Removal>
+    requires { node < length holding.now.rivals.items }
+    ensures { (b : MarketBoard) (places : List ℕ) → IsAllKept b places holding.now → IsBestAt b (held_in b holding.now) node result }
+{
+    if (node as usize) < holding.leaves.len() {
+        return holding.leaves[node as usize].best;
+    }
+    holding.rivals[node as usize].best()
 }
 
 // Changes one rival at a node, and says which one is the cheapest there.
@@ -45,22 +60,6 @@ fn change(
     let rival = &mut rivals[node as usize];
     rival.put(place, entry);
     rival.best()
-}
-
-// A contract by itself, if it is held.
-fn own_removal(board: &Board, marks: &[bool], x: u32) -> Option<Removal>
-    requires contract { x < contract_count board.now }
-    requires marks { length marks.now ≡ contract_count board.now }
-    ensures { IsEntry board.now (held_of (contract_count board.now) marks.now) x result }
-{
-    if !marks[x as usize] {
-        return None;
-    }
-    Some(Removal {
-        contract: x,
-        tie: board.tie(x),
-        loss: 0,
-    })
 }
 
 // A removal that loses one more step.
@@ -87,16 +86,44 @@ fn mend(board: &Board, places: &[usize], holding: &mut Holding, x: u32)
     ensures kept { IsAllKept board.now places.now holding.new }
     ensures held { held_in board.now holding.new ≡ held_in board.now holding.old }
 {
-    let contracts = board.contracts() as usize;
     let chain = chain_of(board, x);
-    let mut entrant = x as usize;
-    let mut entry = own_removal(board, &holding.marks, x);
-    for i in 0..chain.len() {
-        let node = chain[i];
-        let best = change(&mut holding.rivals, node, places[entrant], entry);
-        entry = further(best, last_step(board, &holding.counts, node));
-        entrant = contracts + node as usize;
+    let mut best = holding.leaves[board.leaf(x) as usize].best;
+    for i in 1..chain.len() {
+        let inner = chain[i - 1];
+        let entry = further(best, last_step(board, &holding.counts, inner));
+        best = change(&mut holding.rivals, chain[i], places[inner as usize], entry);
     }
+}
+
+// Puts contract x in at its leaf.
+fn enter_leaf(board: &Board, holding: &mut Holding, x: u32)
+    requires contract { x < contract_count board.now }
+    requires hospitals { HasHospitals board.now }
+    requires leaves { AreLeaves board.now (held_in board.now holding.old) holding.old.leaves.items }
+    requires new { IsFalse (has x (held_in board.now holding.old)) }
+    ensures leaves { AreLeaves board.now (with_one (held_in board.now holding.old) x) holding.new.leaves.items }
+    ensures counts { holding.new.counts.items ≡ holding.old.counts.items }
+    ensures marks { holding.new.marks.items ≡ holding.old.marks.items }
+    ensures rivals { holding.new.rivals.items ≡ holding.old.rivals.items }
+{
+    let leaf = &mut holding.leaves[board.leaf(x) as usize];
+    put_in(board, leaf, x);
+}
+
+// Takes contract z out at its leaf, where it is the one of greatest number.
+fn leave_leaf(board: &Board, holding: &mut Holding, z: u32)
+    requires contract { z < contract_count board.now }
+    requires hospitals { HasHospitals board.now }
+    requires leaves { AreLeaves board.now (held_in board.now holding.old) holding.old.leaves.items }
+    requires held { IsIn z (held_in board.now holding.old) }
+    requires greatest { (y : ℕ) → IsIn y (held_in board.now holding.old) → leaf_of board.now y ≡ leaf_of board.now z → y ≤ z }
+    ensures leaves { AreLeaves board.now (without (held_in board.now holding.old) z) holding.new.leaves.items }
+    ensures counts { holding.new.counts.items ≡ holding.old.counts.items }
+    ensures marks { holding.new.marks.items ≡ holding.old.marks.items }
+    ensures rivals { holding.new.rivals.items ≡ holding.old.rivals.items }
+{
+    let leaf = &mut holding.leaves[board.leaf(z) as usize];
+    take_greatest(board, leaf);
 }
 
 // Marks contract x as held, or as not held.
@@ -104,6 +131,7 @@ fn mark(holding: &mut Holding, x: u32, held: bool)
     requires { x < length holding.old.marks.items }
     ensures marks { holding.new.marks.items ≡ set holding.old.marks.items x held }
     ensures counts { holding.new.counts.items ≡ holding.old.counts.items }
+    ensures leaves { holding.new.leaves.items ≡ holding.old.leaves.items }
     ensures rivals { holding.new.rivals.items ≡ holding.old.rivals.items }
 {
     holding.marks[x as usize] = held;
@@ -118,19 +146,22 @@ pub(crate) fn hold(board: &Board, places: &[usize], holding: &mut Holding, x: u3
     ensures held { held_in board.now holding.new ≡ with_one (held_in board.now holding.old) x }
 {
     count_in(board, &mut holding.counts, x);
+    enter_leaf(board, holding, x);
     mark(holding, x, true);
     mend(board, places, holding, x);
 }
 
-// Lets contract z go.
+// Lets contract z go, which is the one of greatest number at its leaf.
 pub(crate) fn release(board: &Board, places: &[usize], holding: &mut Holding, z: u32)
     requires contract { z < contract_count board.now }
     requires kept { IsAllKept board.now places.now holding.old }
     requires held { IsIn z (held_in board.now holding.old) }
+    requires greatest { (y : ℕ) → IsIn y (held_in board.now holding.old) → leaf_of board.now y ≡ leaf_of board.now z → y ≤ z }
     ensures kept { IsAllKept board.now places.now holding.new }
     ensures held { held_in board.now holding.new ≡ without (held_in board.now holding.old) z }
 {
     count_out(board, &mut holding.counts, z);
+    leave_leaf(board, holding, z);
     mark(holding, z, false);
     mend(board, places, holding, z);
 }

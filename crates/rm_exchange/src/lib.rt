@@ -5,6 +5,7 @@ mod certificates;
 mod counting;
 mod fast;
 mod holding;
+mod leaf;
 mod places;
 mod prospects;
 mod refused;

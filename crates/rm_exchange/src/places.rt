@@ -1,16 +1,15 @@
-// The places of contracts at their leaves, and of nodes at the nodes just outside them.
+// The places of nodes at the nodes just outside them.
 
-ghost use Rattle.std.specs.Prelude.{◌≡◌, ◌+◌, ◌<◌, ◌≤◌, ◌∷◌, [], ℕ, All, ◌^◌, length, get_or, set, OnOk, IfOk, IfSome};
-ghost use Rattle.rm_market.specs.Board.{contract_count, leaf_of, sets_of};
+ghost use Rattle.std.specs.Prelude.{◌≡◌, ◌+◌, ◌<◌, ◌≤◌, ◌∷◌, [], ℕ, All, ◌^◌, length, get_or, set, IfOk, IfSome};
+ghost use Rattle.rm_market.specs.Board.{sets_of};
 ghost use Rattle.rm_market.specs.Tree.{set_of};
-ghost use Rattle.rm_exchange.specs.Holding.{entrants, ArePlacedSo, IsEntered};
+ghost use Rattle.rm_exchange.specs.Holding.{ArePlacedSo, IsEntered};
 
 use rm_board::Board;
 use rm_choice::NoMemory;
 use std::alloc::Global;
 
-// The place of each contract at its leaf, and after all contracts of each node at the node just outside it; and how many
-// places there are at each node.
+// The place of each node at the node just outside it, and how many places there are at each node.
 #[derive(Drop)]
 pub struct Places {
     pub places: Vec<usize>,
@@ -41,38 +40,6 @@ fn enter_if_any(widths: &mut Vec<usize>, node: Option<u32>) -> usize
     }
 }
 
-// The contracts' places.
-fn place_contracts(board: &Board, at: &mut Places) -> Result<(), NoMemory>
-    requires wide { length at.old.widths.items ≡ length board.now.nodes }
-    requires none { ArePlacedSo board.now 0 at.old.widths.items at.old.places.items }
-    requires hospitals { length board.now.ranks ≤ length board.now.nodes }
-    ensures wide { OnOk result (length at.new.widths.items ≡ length board.now.nodes) }
-    ensures placed { OnOk result (ArePlacedSo board.now (contract_count board.now) at.new.widths.items at.new.places.items) }
-    ensures leaves { OnOk result ((x : ℕ) → x < contract_count board.now → leaf_of board.now x < length board.now.ranks) }
-{
-    for x in 0..board.contracts() {
-        let place = enter(&mut at.widths, board.leaf(x));
-        at.places.push(place)?;
-    }
-    Ok(())
-}
-
-// The nodes' places, after those of the contracts.
-fn place_nodes(board: &Board, at: &mut Places) -> Result<(), NoMemory>
-    requires wide { length at.old.widths.items ≡ length board.now.nodes }
-    requires placed { ArePlacedSo board.now (contract_count board.now) at.old.widths.items at.old.places.items }
-    ensures wide { OnOk result (length at.new.widths.items ≡ length board.now.nodes) }
-    ensures placed { OnOk result (ArePlacedSo board.now (entrants board.now) at.new.widths.items at.new.places.items) }
-{
-    let contracts = board.contracts();
-    let tree = board.tree();
-    for node in 0..tree.nodes() {
-        let place = enter_if_any(&mut at.widths, tree.parent(node));
-        at.places.push(place)?;
-    }
-    Ok(())
-}
-
 // All places.
 pub(crate) fn all_places(alloc: Global, board: &Board) -> Result<Places, NoMemory>
     ensures own { IfOk result (λ at. (h : ℕ) → h < length board.now.ranks → set_of (sets_of board.now) h ≡ h ∷ []) }
@@ -80,17 +47,15 @@ pub(crate) fn all_places(alloc: Global, board: &Board) -> Result<Places, NoMemor
     ensures small { IfOk result (λ at. length board.now.nodes < 4_294_967_296) }
     ensures few { IfOk result (λ at. All (λ width. width < 2 ^ 40) at.widths.items) }
     ensures wide { IfOk result (λ at. length at.widths.items ≡ length board.now.nodes) }
-    ensures placed { IfOk result (λ at. ArePlacedSo board.now (entrants board.now) at.widths.items at.places.items) }
-    ensures leaves { IfOk result (λ at. (x : ℕ) → x < contract_count board.now → leaf_of board.now x < length board.now.ranks) }
+    ensures placed { IfOk result (λ at. ArePlacedSo board.now (length board.now.nodes) at.widths.items at.places.items) }
 {
-    let contracts = board.contracts();
     let tree = board.tree();
     let nodes = tree.nodes();
-    let mut at = Places {
-        places: Vec::with_capacity(alloc, contracts as usize + nodes as usize)?,
-        widths: vec![in alloc; 0; nodes as usize]?,
-    };
-    place_contracts(board, &mut at)?;
-    place_nodes(board, &mut at)?;
-    Ok(at)
+    let mut places = Vec::with_capacity(alloc, nodes as usize)?;
+    let mut widths = vec![in alloc; 0; nodes as usize]?;
+    for node in 0..nodes {
+        let place = enter_if_any(&mut widths, tree.parent(node));
+        places.push(place)?;
+    }
+    Ok(Places { places, widths })
 }

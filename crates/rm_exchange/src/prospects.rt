@@ -3,10 +3,11 @@
 ghost use Rattle.std.specs.Prelude.{◌≡◌, ◌<◌, ◌-ℤ◌, ◌≤ℤ◌, ◌^◌, pos, ℕ, List, IfSome, IsTrue, IsFalse};
 ghost use Rattle.rm_market.specs.Board.{contract_count, is_feasible};
 ghost use Rattle.rm_exchange.specs.Holding.{held_in, IsAllKept};
-ghost use Rattle.rm_exchange.specs.Prospects.{better_swap, IsRated, AreProspects, IsDecided};
+ghost use Rattle.rm_exchange.specs.Prospects.{greater_swap, IsRated, AreProspects, IsDecided};
 ghost use Rattle.rm_sets.specs.Sets.{has};
+ghost use Rattle.rm_valuation_laws.specs.Scores.{place};
 
-use crate::holding::{Holding, chain_of};
+use crate::holding::{Holding, chain_of, cheapest_at};
 use crate::removal::Removal;
 use rm_board::Board;
 use rm_market::Outcome;
@@ -46,7 +47,7 @@ fn rated(gain: i64, removal: Option<Removal>) -> Option<Swap>
 
 // The swap that changes the worth by more, of equal changes the later in tie order.
 fn better(best: Option<Swap>, next: Option<Swap>) -> Option<Swap>
-    ensures { result ≡ better_swap best next }
+    ensures { result ≡ greater_swap best next }
 {
     let Some(old) = best else {
         return next;
@@ -74,8 +75,7 @@ pub(crate) fn walk(board: &Board, holding: &Holding, x: u32) -> Prospects
     let mut swap = None;
     for i in 0..chain.len() {
         let node = chain[i];
-        let best = holding.rivals[node as usize].best();
-        swap = better(swap, rated(gain, best));
+        swap = better(swap, rated(gain, cheapest_at(holding, node)));
         let Some(step) = next_step(board, &holding.counts, node) else {
             return Prospects {
                 swap,
@@ -90,10 +90,11 @@ pub(crate) fn walk(board: &Board, holding: &Holding, x: u32) -> Prospects
     }
 }
 
-// What an offer at this place in tie order does: an addition that doesn't lower the worth and isn't exceeded by the swap, else
-// a swap that raises the worth, or leaves it and comes first in tie order.
-pub(crate) fn decide(prospects: Prospects, tie: u32) -> Outcome
-    ensures { IsDecided prospects tie result }
+// What an offer of contract x does: an addition that doesn't lower the worth and isn't exceeded by the swap, else a swap that
+// raises the worth, or leaves it and comes first in tie order.
+pub(crate) fn decide(board: &Board, prospects: Prospects, x: u32) -> Outcome
+    requires { x < contract_count board.now }
+    ensures { IsDecided prospects (place board.now.ties x) result }
 {
     let Some(swap) = prospects.swap else {
         return match prospects.addition {
@@ -106,7 +107,7 @@ pub(crate) fn decide(prospects: Prospects, tie: u32) -> Outcome
             return Outcome::Kept;
         }
     }
-    if swap.change > 0 || (swap.change == 0 && tie < swap.tie) {
+    if swap.change > 0 || (swap.change == 0 && board.tie(x) < swap.tie) {
         return Outcome::Swapped(swap.contract);
     }
     Outcome::Refused

@@ -1,6 +1,6 @@
 // Held contracts, by what is lost without them.
 
-ghost use Rattle.std.specs.Prelude.{◌≡◌};
+ghost use Rattle.std.specs.Prelude.{◌≡◌, ◌↔◌, IsTrue};
 ghost use Rattle.rm_exchange.specs.Removals.{cheapest};
 
 // A held contract that may be displaced: what is lost without it at the nodes so far, and its place in tie order.
@@ -26,4 +26,17 @@ pub(crate) fn cheaper(first: Option<Removal>, second: Option<Removal>) -> Option
     } else {
         second
     }
+}
+
+// Whether two removals are the same.
+pub(crate) fn is_same(first: Option<Removal>, second: Option<Removal>) -> bool
+    ensures { IsTrue result ↔ (first ≡ second) }
+{
+    let Some(a) = first else {
+        return second.is_none();
+    };
+    let Some(b) = second else {
+        return false;
+    };
+    a.contract == b.contract && a.tie == b.tie && a.loss == b.loss
 }

@@ -3,14 +3,14 @@
 ghost use Rattle.std.specs.Prelude.{◌≡◌, ◌*◌, ◌^◌, ◌<◌, ℕ, List, None, length, replicate, set, IfOk};
 ghost use Rattle.rm_exchange.specs.Removals.{IsCheapestOf};
 
-use crate::removal::{Removal, cheaper};
+use crate::removal::{Removal, cheaper, is_same};
 use rm_choice::NoMemory;
 use std::alloc::Global;
 use std::marker::Model;
 
 // The removals of some rivals, of which each may be empty. Entry `width + i` is that of rival i, and each entry j from 1
 // below the width is the cheaper one of the entries 2j and 2j + 1, so that entry 1 is the cheapest of all. To change one
-// rival takes as many steps as the width has binary digits.
+// rival takes at most as many steps as the width has binary digits.
 #[derive(Drop)]
 pub struct Tournament {
     width: usize,
@@ -61,7 +61,11 @@ impl Tournament {
         self.entries[j] = rival;
         while j > 1 {
             j /= 2;
-            self.entries[j] = cheaper(self.entries[2 * j], self.entries[2 * j + 1]);
+            let winner = cheaper(self.entries[2 * j], self.entries[2 * j + 1]);
+            if is_same(winner, self.entries[j]) {
+                return;
+            }
+            self.entries[j] = winner;
         }
     }
 }

@@ -1,27 +1,24 @@
-use Rattle.std.proofs.Common.{◌≡◌, ◌∙◌, ◌+◌, ◌-◌, ◌<◌, ◌≤◌, ◌+ℤ◌, List, length, get_or, refl, sym, ap, subst, arith, FitsSigned, w64, pos, false, add-one}
+use Rattle.std.proofs.Common.{◌∙◌, ◌+ℤ◌, length, get_or, sym, ap, subst, arith, FitsSigned, w64}
 use mir.Val.{to_z}
-use Rattle.std.specs.Prelude.{IfSome}
 use Rattle.std.proofs.lemmas.Int.{ints, to_z-of_z}
 use Rattle.rm_sets.specs.Sets.{IsSet}
-use Rattle.rm_market.specs.Board.{contract_count, leaf_of, node_at, sets_of}
-use Rattle.rm_valuation.proofs.Counted.{count_of}
+use Rattle.rm_market.specs.Board.{contract_count}
 use Rattle.rm_valuation_laws.specs.Changes.{test_at}
 use Rattle.rm_valuation.specs.Counts.{AreCounts}
-use Rattle.rm_exchange.specs.Prospects.{IsBestSwapOf}
+use Rattle.rm_exchange.specs.Prospects.{IsBestRatedOf}
 use Rattle.rm_exchange.specs.Holding.{held_in}
 use Rattle.rm_exchange.proofs.Held.{held_set}
-use Rattle.rm_exchange.proofs.Chain.{is_chain, node_of, kept_best, read_best, small_best}
+use Rattle.rm_exchange.proofs.Chain.{is_chain, node_of, small_best}
 use Rattle.rm_exchange.proofs.Walked.{few_nodes, walk_start, walked_swap, walk_more, walk_full, walk_end, full_at, room_at, step_is}
 use Rattle.rm_exchange.proofs.prospects.walk.Goals as goal
 
 pub loop-i-init : goal.loop-i-init
 loop-i-init c = walk_start c.args.board.now (held_in c.args.board.now c.args.holding.now) c.args.x c.chain_of-chain.result.now
 
-pub index-requires : goal.index-requires
-index-requires c =
+pub cheapest_at-requires : goal.cheapest_at-requires
+cheapest_at-requires c =
     let lt = node_of c.args.board.now c.requires.kept.1.hospitals c.args.x c.chain_of-chain.result.now c.loop-i.i c.chain_of-chain.ensures c.loop-i-test.true in
     let all = c.requires.kept.1.all_nodes in
-    let long = c.args.holding.now.rivals.ok.0 in
     omega arith
 
 pub rated-requires-clause-low : goal.rated-requires-clause-low
@@ -36,9 +33,8 @@ rated-requires-clause-high c =
 
 pub rated-requires-clause-small : goal.rated-requires-clause-small
 rated-requires-clause-small c =
-    let a = get_or c.chain_of-chain.result.now c.loop-i.i 0 in
-    small_best c.args.board.now (held_in c.args.board.now c.args.holding.now) a c.best-best.result c.requires.kept.1.small
-    (kept_best c.args.board.now c.requires.kept.0 c.args.holding.now a c.best-best.result c.requires.kept.1 (node_of c.args.board.now c.requires.kept.1.hospitals c.args.x c.chain_of-chain.result.now c.loop-i.i c.chain_of-chain.ensures c.loop-i-test.true) (read_best c.args.holding.now.rivals.items a c.index.result.now c.best-best.result c.index.ensures (let lt = node_of c.args.board.now c.requires.kept.1.hospitals c.args.x c.chain_of-chain.result.now c.loop-i.i c.chain_of-chain.ensures c.loop-i-test.true in let all = c.requires.kept.1.all_nodes in omega arith) c.best-best.ensures))
+    small_best c.args.board.now (held_in c.args.board.now c.args.holding.now) (get_or c.chain_of-chain.result.now c.loop-i.i 0) c.cheapest_at.result c.requires.kept.1.small
+    (c.cheapest_at.ensures c.args.board.now c.requires.kept.0 c.requires.kept.1)
 
 pub next_step-requires-clause-node : goal.next_step-requires-clause-node
 next_step-requires-clause-node c = node_of c.args.board.now c.requires.kept.1.hospitals c.args.x c.chain_of-chain.result.now c.loop-i.i c.chain_of-chain.ensures c.loop-i-test.true
@@ -59,10 +55,9 @@ returns-in_default c =
     let set : IsSet H = (held_set (contract_count b) h.marks.items).ascending in
     let la = node_of b plan x nodes i c.chain_of-chain.ensures c.loop-i-test.true in
     let ch = is_chain b plan x nodes c.chain_of-chain.ensures in
-    let top = read_best h.rivals.items a c.index.result.now c.best-best.result c.index.ensures (let all = c.requires.kept.1.all_nodes in omega arith) c.best-best.ensures in
-    let best = kept_best b c.requires.kept.0 h a c.best-best.result c.requires.kept.1 la top in
-    let swap : IsBestSwapOf b H x (test_at b a) c.better-swap.result = subst (IsBestSwapOf b H x (test_at b a)) (sym c.better-swap.ensures)
-    (walked_swap b plan H set x c.requires.contract nodes ch i c.loop-i-test.true (to_z w64 c.loop-i.gain-bits) c.loop-i.swap c.best-best.result c.rated.result c.loop-i.invariant best c.rated.ensures) in
+    let best = c.cheapest_at.ensures b c.requires.kept.0 c.requires.kept.1 in
+    let swap : IsBestRatedOf b H x (test_at b a) c.better-swap.result = subst (IsBestRatedOf b H x (test_at b a)) (sym c.better-swap.ensures)
+    (walked_swap b plan H set x c.requires.contract nodes ch i c.loop-i-test.true (to_z w64 c.loop-i.gain-bits) c.loop-i.swap c.cheapest_at.result c.rated.result c.loop-i.invariant best c.rated.ensures) in
     let counted = subst (AreCounts b H) (sym c.deref.ensures.value) c.requires.kept.1.counted in
     walk_full b plan H x c.requires.contract nodes ch i c.loop-i-test.true (to_z w64 c.loop-i.gain-bits) c.loop-i.swap c.better-swap.result c.loop-i.invariant swap (full_at b H c.deref.result.now a la counted (sym c.in_default.ensures.step))
 
@@ -86,10 +81,9 @@ loop-i-preserved c =
     let set : IsSet H = (held_set (contract_count b) h.marks.items).ascending in
     let la = node_of b plan x nodes i c.chain_of-chain.ensures c.loop-i-test.true in
     let ch = is_chain b plan x nodes c.chain_of-chain.ensures in
-    let top = read_best h.rivals.items a c.index.result.now c.best-best.result c.index.ensures (let all = c.requires.kept.1.all_nodes in omega arith) c.best-best.ensures in
-    let best = kept_best b c.requires.kept.0 h a c.best-best.result c.requires.kept.1 la top in
-    let swap : IsBestSwapOf b H x (test_at b a) c.better-swap.result = subst (IsBestSwapOf b H x (test_at b a)) (sym c.better-swap.ensures)
-    (walked_swap b plan H set x c.requires.contract nodes ch i c.loop-i-test.true (to_z w64 c.loop-i.gain-bits) c.loop-i.swap c.best-best.result c.rated.result c.loop-i.invariant best c.rated.ensures) in
+    let best = c.cheapest_at.ensures b c.requires.kept.0 c.requires.kept.1 in
+    let swap : IsBestRatedOf b H x (test_at b a) c.better-swap.result = subst (IsBestRatedOf b H x (test_at b a)) (sym c.better-swap.ensures)
+    (walked_swap b plan H set x c.requires.contract nodes ch i c.loop-i-test.true (to_z w64 c.loop-i.gain-bits) c.loop-i.swap c.cheapest_at.result c.rated.result c.loop-i.invariant best c.rated.ensures) in
     let counted = subst (AreCounts b H) (sym c.deref.ensures.value) c.requires.kept.1.counted in
     let few = few_nodes b x nodes c.chain_of-chain.ensures c.requires.kept.1.small in
     let range = c.in-Some.ensures.range in

@@ -1,4 +1,4 @@
-use Rattle.std.proofs.Common.{◌≡◌, ◌∙◌, All, map, replicate, None, ◌<◌, ap, sym, subst}
+use Rattle.std.proofs.Common.{◌∙◌, All, map, replicate, None, ◌<◌, ap, sym, subst}
 use Rattle.std.specs.Prelude.{◌^◌}
 use Rattle.rm_market.specs.Board.{contract_count}
 use Rattle.rm_valuation_laws.proofs.BestOf.{board_best}
@@ -13,13 +13,13 @@ pub invariant_of-result : goal.invariant_of-result
 invariant_of-result c =
     let b = c.args.board.now in
     let at = c.in_ok-at.ensures in
-    let plan = has_hospitals c.requires.0 b c.requires.1 at.hospitals at.own at.leaves in
+    let plan = has_hospitals c.requires.0 b c.requires.1 at.hospitals at.own c.in_ok-holding.ensures.hospitals in
     let h = c.in_ok-holding.holding in
     record {
       concave = plan.concave;
       leaves = plan.leaves;
       settled = none_best b (held_in b h) plan (none_held (contract_count b) h.marks.items c.in_ok-holding.ensures.marks);
-      kept = ∣ opened b c.in_ok-at.at.places.items c.in_ok-at.at.widths.items h plan at.small at.wide at.placed c.in_ok-holding.ensures.counts c.in_ok-holding.ensures.marks
+      kept = ∣ opened b c.in_ok-at.at.places.items c.in_ok-at.at.widths.items h plan at.small at.wide at.placed c.in_ok-holding.ensures.counts c.in_ok-holding.ensures.marks c.in_ok-holding.ensures.leaves
           (c.in_ok-holding.ensures.rivals ∙ ap (λ widths. map (λ width. replicate width None) widths) c.deref.ensures.value) ∣₁;
     }
 

@@ -1,6 +1,6 @@
-use Rattle.std.proofs.Common.{◌≡◌, ◌∙◌, ◌+◌, ◌-◌, ◌*◌, ◌/◌, ◌<◌, ◌≤◌, get_or, length, set, None, sym, ap, drop, arith}
-use Rattle.std.proofs.lemmas.List.{get_or_default, length-drop, drop-set-add, drop-set-lt}
-use Rattle.rm_exchange.proofs.Rounds.{rival_changed, round_changed, all_rounds, round_read}
+use Rattle.std.proofs.Common.{◌∙◌, ◌+◌, ◌-◌, ◌/◌, length, set, ap, arith}
+use Rattle.std.proofs.lemmas.List.{length-drop, drop-set-add, drop-set-lt}
+use Rattle.rm_exchange.proofs.Rounds.{rival_changed, round_changed, round_read}
 use Rattle.rm_exchange.proofs.tournament.Tournament.put.Goals as goal
 
 pub loop-j-init : goal.loop-j-init
@@ -22,7 +22,7 @@ loop-j-preserved c =
     let j = c.loop-j.j in
     let here = c.loop-j.invariant.0.here in
     let past = c.loop-j-test.true in (
-      round_changed width entries j (j / 2) c.cheaper.result c.loop-j.invariant.0 c.loop-j-test.true (omega arith)
-          (round_read width entries (j / 2) _ _ c.cheaper.result c.loop-j.invariant.0.twice (omega arith) c.index.ensures c.index-in-loop-j.ensures c.cheaper.ensures),
-      drop-set-lt width entries (j / 2) c.cheaper.result (omega arith) ∙ c.loop-j.invariant.1,
+      round_changed width entries j (j / 2) c.cheaper-winner.result c.loop-j.invariant.0 c.loop-j-test.true (omega arith)
+          (round_read width entries (j / 2) _ _ c.cheaper-winner.result c.loop-j.invariant.0.twice (omega arith) c.index.ensures c.index-in-loop-j.ensures c.cheaper-winner.ensures),
+      drop-set-lt width entries (j / 2) c.cheaper-winner.result (omega arith) ∙ c.loop-j.invariant.1,
     )

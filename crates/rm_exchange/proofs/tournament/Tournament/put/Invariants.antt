@@ -1,4 +1,4 @@
-use Rattle.std.proofs.Common.{◌≡◌, ◌≤◌, ◌<◌, set, drop}
+use Rattle.std.proofs.Common.{◌≡◌, set, drop}
 use Rattle.rm_exchange.proofs.Rounds.{AreRoundsBut}
 use Rattle.rm_exchange.proofs.tournament.Tournament.put.Given as goal
 

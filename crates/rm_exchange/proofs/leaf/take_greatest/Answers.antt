@@ -1,0 +1,7 @@
+use Rattle.std.specs.BinaryHeap.{heap_items}
+use Rattle.rm_exchange.proofs.Greatest.{taken_is, none_there}
+use Rattle.rm_exchange.proofs.leaf.take_greatest.Goals as goal
+
+pub returns-clause-items : goal.returns-clause-items
+returns-clause-items c = λ z i up.
+    taken_is (heap_items c.args.leaf.now.held) (heap_items c.pop.new.self) z c.pop.result c.requires.order c.pop.ensures.permutation c.pop.ensures.heap_order (none_there c.args.leaf.now.held.data.len (heap_items c.args.leaf.now.held) c.pop.result c.args.leaf.now.held.data.ok.0 c.pop.ensures.none) i up
