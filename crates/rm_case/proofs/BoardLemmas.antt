@@ -17,8 +17,8 @@ use Rattle.rm_roster.specs.Roster.{RosterData, IsRoster}
 use Rattle.rm_sets.specs.Sets.{below, IsSetBelow}
 use Rattle.rm_sets.proofs.Once.{get_or-below, length-below}
 use Rattle.rm_case.specs.Case.{board_checks, ties_fault}
-use Rattle.rm_case.specs.Compiled.{board_of, compiled_steps, tie_order_of}
-use Rattle.rm_case.specs.Fits.{Fits, IsRuleOf}
+use Rattle.rm_case.specs.Compiled.{compiled_board, compiled_steps, tie_order_of}
+use Rattle.rm_case.specs.Suits.{SuitsRoster, IsRuleOf}
 use Rattle.rm_case.specs.NodeSteps.{node_steps}
 
 -- the groups are sets of hospitals, as vectors
@@ -41,7 +41,7 @@ rule_fault r p rule.ByRank e = rw e refl
 rule_fault r p rule.ByHospital e = rw e refl
 rule_fault r p (rule.Listed pairs) e = rw e.0 (rw e.1 refl)
 
-pub rule_known : (r : RosterData) (p : PolicyData) (t : TieRule) (n : ℕ) → Fits r p → IsRuleOf p t → n ≡ length r.hospitals → AreKnown n t
+pub rule_known : (r : RosterData) (p : PolicyData) (t : TieRule) (n : ℕ) → SuitsRoster r p → IsRuleOf p t → n ≡ length r.hospitals → AreKnown n t
 rule_known r p rule.ByRank n fits e size = tt
 rule_known r p rule.ByHospital n fits e size = tt
 rule_known r p (rule.Listed pairs) n fits e size = rw (size, e.1) fits.listed
@@ -81,14 +81,14 @@ nodes_same r p n same =
     (λ h lt. ap (λ (steps : List ℤ). record { leaves = h ∷ []; steps = steps }) (own_at r p h (omega (arith, lt, same))))
 
 same_board : (r : RosterData) (p : PolicyData) (t : TieRule) → IsRoster r → IsRuleOf p t
-    → built_board r.ranks (record { hospitals = length r.hospitals; groups = p.groups.members }) (node_steps r p) (order_of r.ranks t) ≡ board_of r p
-unfolding board_of
+    → built_board r.ranks (record { hospitals = length r.hospitals; groups = p.groups.members }) (node_steps r p) (order_of r.ranks t) ≡ compiled_board r p
+unfolding compiled_board
 same_board r p t roster e = rw (nodes_same r p (length r.ranks) roster.rank_each, groups_after r p, rule_order r p t e) refl
 
 pub board_made : (r : RosterData) (p : PolicyData) (tree : TreeOf) (steps : List (List ℤ)) (t : TieRule) (board : Board) → IsRoster r → IsRuleOf p t
     → tree ≡ record { hospitals = length r.hospitals; groups = p.groups.members } → tree_fault p.groups.members ≡ None → steps ≡ node_steps r p
     → fault_of r.ranks t ≡ None → board ≡ built_board r.ranks tree steps (order_of r.ranks t)
-    → (first_of (board_checks r p) ≡ None) × (board ≡ board_of r p)
+    → (first_of (board_checks r p) ≡ None) × (board ≡ compiled_board r p)
 board_made r p tree steps t board roster e tree_is quiet steps_are still made = (
   rw (quiet, ← rule_fault r p t e, still) refl,
   made ∙ rw (tree_is, steps_are) (same_board r p t roster e),

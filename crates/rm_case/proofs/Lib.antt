@@ -1,5 +1,5 @@
 mod BoardLemmas
-mod FitsLemmas
+mod SuitsLemmas
 mod FolderChecks
 mod Markets
 mod OfferRows

@@ -21,8 +21,8 @@ use Rattle.rm_policy.specs.declared.Ties.{Ties}
 use Rattle.rm_policy.specs.declared.Ties.TheVariants as ties
 use Rattle.rm_roster.specs.Roster.{RosterData, IsRoster}
 use Rattle.rm_case.specs.Case.{board_checks, market, ties_fault, tree_refusal, ties_refusal}
-use Rattle.rm_case.specs.Compiled.{board_of, compiled_steps, flexible_steps, own_steps, region_of, steps_in_region, tie_order_of}
-use Rattle.rm_case.specs.Fits.{Fits}
+use Rattle.rm_case.specs.Compiled.{compiled_board, compiled_steps, flexible_steps, own_steps, region_of, steps_in_region, tie_order_of}
+use Rattle.rm_case.specs.Suits.{SuitsRoster}
 
 -- what is found among elements that are counted from n has at least that number
 found_from : (q : ℕ × Seat → Bool) (n : ℕ) (L : List Seat) (e : ℕ × Seat) → find q (enumerate_from n L) ≡ Some e → n ≤ e.0
@@ -48,14 +48,14 @@ steps_in_region_fall g h = by (find (λ e. e.1.hospital == h) (enumerate_from 1 
     by None e = no_steps_fall
     by (Some x) e = place_steps_fall g x.0 x.1 (found_from (λ e. e.1.hospital == h) 1 g.seats x e)
 
-own_steps_fall : (r : RosterData) (p : PolicyData) (h : ℕ) → Fits r p → IsFalling (own_steps r p h)
+own_steps_fall : (r : RosterData) (p : PolicyData) (h : ℕ) → SuitsRoster r p → IsFalling (own_steps r p h)
 own_steps_fall r p h fits = by (get_or p.hospital_steps h None) (fits.hospital_steps h)
   where
     by : (o : Option (List ℤ)) → IfSome o IsFalling → IsFalling (unwrap_or o (flat (get_or r.capacities h 0)))
     by None none = zeros_fall (get_or r.capacities h 0)
     by (Some steps) fall = fall
 
-hospital_steps_fall : (r : RosterData) (p : PolicyData) (h : ℕ) → Fits r p → IsFalling (compiled_steps r p h)
+hospital_steps_fall : (r : RosterData) (p : PolicyData) (h : ℕ) → SuitsRoster r p → IsFalling (compiled_steps r p h)
 hospital_steps_fall r p h fits = by (is_flexible p.kind)
   where
     by : (c : Bool) → IsFalling (cond c (flexible_steps r p h) (own_steps r p h))
@@ -72,8 +72,8 @@ ties_stand r p ties.Listed e = listed_ties r.ranks p.listed e
 lists_below : (n m : ℕ) (lists : List (List ℕ)) → m ≡ n → AreListsBelow n lists → AreListsBelow m lists
 lists_below n m lists same all = subst (λ k. AreListsBelow k lists) (sym same) all
 
-pub market_made : (r : RosterData) (p : PolicyData) → IsRoster r → Fits r p → first_of (board_checks r p) ≡ None → IsMarket (market (record { roster = r; policy = p }))
-unfolding board_of
+pub market_made : (r : RosterData) (p : PolicyData) → IsRoster r → SuitsRoster r p → first_of (board_checks r p) ≡ None → IsMarket (market (record { roster = r; policy = p }))
+unfolding compiled_board
 market_made r p roster fits quiet =
     let parts = none_cons (option_map tree_refusal (tree_fault p.groups.members)) (option_map ties_refusal (ties_fault r p p.ties) ∷ []) quiet in
     let tree = option_map_none tree_refusal (tree_fault p.groups.members) parts.0 in

@@ -1,4 +1,5 @@
 -- The rows of offers, read one after another.
+use Rattle.std.specs.List.{IsDistinct}
 use Rattle.std.proofs.Common.{◌≡◌, eqb-true, ◌+◌, ◌<◌, ◌≤◌, ◌==◌, ◌∙◌, false, eqb, ◌↔◌, ℕ, List, [], ◌∷◌, ◌++◌, length, get_or, set, replicate, position, Option, Result, option_map, option_and_then, Some, None, inl, inr, ◌&&◌, refl, ap, sym, subst, subst₂, arith, length-append, length-set, All}
 use Rattle.std.proofs.lemmas.Bool.{eqb-false, eq-eqb}
 use Rattle.std.proofs.lemmas.List.{length-replicate}
@@ -21,12 +22,12 @@ use Rattle.rm_board_laws.proofs.Searches.{position_nowhere, position_bound}
 use Rattle.rm_table.specs.Rows.{Row}
 use Rattle.rm_market.specs.Board.{number_of, contract_of, contract_count, pairs_of, Board}
 use Rattle.rm_roster.specs.Cells.{field, data_rows, wrong_cell}
-use Rattle.rm_sets.specs.Sets.{has, IsIn, IsOnce, IsSet}
+use Rattle.rm_sets.specs.Sets.{has, IsIn, IsSet}
 use Rattle.rm_sets.proofs.Sets.{IsIn-cases, not_both, same_tests}
 use Rattle.rm_sets.proofs.Members.{not_in_nil, not_in_from, place_from_IsIn, IsIn-from_Contains, Contains-from_IsIn}
-use Rattle.rm_sets.proofs.Once.{once_append, distinct_from_once}
+use Rattle.rm_sets.proofs.Once.{distinct_append, distinct_none, distinct_one}
 use Rattle.rm_case.specs.Case.{CaseData, IsCase, market}
-use Rattle.rm_case.specs.Compiled.{board_of}
+use Rattle.rm_case.specs.Compiled.{compiled_board}
 use Rattle.rm_case.specs.declared.fault.OwnFault.{OwnFault}
 use Rattle.rm_case.specs.declared.fault.OwnFault.TheVariants as fault
 use Rattle.rm_case.specs.Own.{StopsOwn, ReadsOwn, offers_of, offer_header, offer_table_checks, doctor_in, hospital_in, row_contract, contracts_in, row_checks, row_of_contract, offer_checks}
@@ -56,7 +57,7 @@ found-name names told text said o p same at e is = subst₂ (λ a b. place_of a 
 
 -- the board of a case has the rank lists of its roster
 ranks-of : (c : CaseData) → (market c).board.ranks ≡ c.roster.ranks
-unfolding board_of
+unfolding compiled_board
 ranks-of c = refl
 
 number-low : (ranks : List (List ℕ)) (d h x : ℕ) → number_of ranks d h ≡ Some x → x < length (pairs_of ranks)
@@ -89,7 +90,7 @@ pub record AreOffered (c : CaseData) (rows : List Row) (i : ℕ) (marks : List (
   pub long : length marks ≡ contract_count (market c).board
   pub firsts : AreFirst marks contracts
   pub within : All (λ x. x < contract_count (market c).board) contracts
-  pub once : IsOnce contracts
+  pub once : IsDistinct eqb contracts
 
 -- a number without a place in a list isn't in it
 absent : (L : List ℕ) (x : ℕ) → position (λ y. y == x) L ≡ None → has x L ≡ false
@@ -107,7 +108,7 @@ none-offered c rows n e = record {
   long = length-replicate n None ∙ e;
   firsts = first-none n;
   within = All-nil (λ x. x < contract_count (market c).board);
-  once = tt;
+  once = distinct_none;
 }
 
 then-same : (o : Option ℕ) (f g : ℕ → Option ℕ) → ((x : ℕ) → o ≡ Some x → f x ≡ g x) → option_and_then f o ≡ option_and_then g o
@@ -158,7 +159,7 @@ module _ (c : CaseData) (rows : List Row) (i : ℕ) (marks : List (Option ℕ)) 
         long = length-set marks x (Some i) ∙ r.long;
         firsts = subst (λ k. AreFirst (set marks x (Some k)) (contracts ++ x ∷ [])) row_at (first-more marks contracts x r.firsts low unmarked);
         within = All-append (λ x. x < contract_count (market c).board) contracts (x ∷ []) r.within (All-cons (λ x. x < contract_count (market c).board) x [] low' (All-nil (λ x. x < contract_count (market c).board)));
-        once = once_append contracts (x ∷ []) r.once (refl, tt) (λ y here there.
+        once = distinct_append contracts (x ∷ []) r.once (distinct_one x) (λ y here there.
             not_both (has x contracts) (subst (λ z. IsIn z contracts) (one-of x y there) here) (absent contracts x none));
       }
 
@@ -187,10 +188,10 @@ header-right c rows o r e is h = rw (sym e ∙ is) h
 eqb-flips : (x y : ℕ) → eqb x y ≡ eqb y x
 eqb-flips x y = same_tests (eqb x y) (eqb y x) (λ e. eq-eqb y x (sym (eqb-true x y e))) (λ e. eq-eqb x y (sym (eqb-true y x e)))
 
-pub sorted-set : (xs ys : List ℕ) → IsOnce xs → IsPermutation xs ys → IsSorted nat_cmp ys → IsSet ys
+pub sorted-set : (xs ys : List ℕ) → IsDistinct eqb xs → IsPermutation xs ys → IsSorted nat_cmp ys → IsSet ys
 sorted-set xs ys once moves sorted =
     IsStrictlyIncreasing-from_distinct ys (IsNonDecreasingBy-from_sort (λ x. x) ys sorted)
-    (IsDistinct-IsPermutation eqb eqb-flips xs ys moves (distinct_from_once xs once))
+    (IsDistinct-IsPermutation eqb eqb-flips xs ys moves once)
 
 pub same-members : (xs ys : List ℕ) → IsPermutation xs ys → (x : ℕ) → IsIn x ys ↔ IsIn x xs
 same-members xs ys moves x = (

@@ -15,7 +15,7 @@ use Rattle.rm_roster.specs.Roster.{RosterData, IsRoster}
 use Rattle.rm_sets.specs.Sets.{all_below, below}
 use Rattle.rm_sets.proofs.Once.{get_or-below, length-below}
 use Rattle.rm_case.specs.Compiled.{entry_of_prefecture, order_of_prefecture}
-use Rattle.rm_case.specs.Fits.{Fits}
+use Rattle.rm_case.specs.Suits.{SuitsRoster}
 use Rattle.rm_case.specs.NodeSteps.{with_order}
 
 -- lists that are told by a function of their number
@@ -83,7 +83,7 @@ names_prefecture r p q g roster lt e =
     rw named.1 (roster.prefectures.found q (get_or r.prefectures q []) (slice_get-get_or r.prefectures q [] lt))
 
 -- and the prefecture of an entry's name has that entry
-has_entry : (r : RosterData) (p : PolicyData) (q g : ℕ) → IsPolicy p → Fits r p → g < length p.orders → place_of r.prefectures (get_or p.groups.names g []) ≡ Some q → entry_of_prefecture r p q ≡ Some g
+has_entry : (r : RosterData) (p : PolicyData) (q g : ℕ) → IsPolicy p → SuitsRoster r p → g < length p.orders → place_of r.prefectures (get_or p.groups.names g []) ≡ Some q → entry_of_prefecture r p q ≡ Some g
 has_entry r p q g policy fits lt e =
     let names = take (length p.orders) p.groups.names in
     let name = get_or p.groups.names g [] in
@@ -141,7 +141,7 @@ with_long None place old = refl
 with_long (Some order) None old = refl
 with_long (Some order) (Some q) old = length-set old q order
 
-module _ (r : RosterData) (p : PolicyData) (g : ℕ) (roster : IsRoster r) (policy : IsPolicy p) (fits : Fits r p) (lt : g < length p.orders) where
+module _ (r : RosterData) (p : PolicyData) (g : ℕ) (roster : IsRoster r) (policy : IsPolicy p) (fits : SuitsRoster r p) (lt : g < length p.orders) where
   abbrev name : Text
   name = get_or p.groups.names g []
 

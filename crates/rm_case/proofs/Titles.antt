@@ -9,7 +9,7 @@ use Rattle.rm_sets.proofs.Once.{length-below}
 use Rattle.rm_market.specs.Board.{Node}
 use Rattle.rm_market.specs.Tree.{below}
 use Rattle.rm_board_laws.specs.HospitalBoards.{hospital_nodes, group_nodes}
-use Rattle.rm_case.specs.Compiled.{board_of, compiled_steps}
+use Rattle.rm_case.specs.Compiled.{compiled_board, compiled_steps}
 use Rattle.rm_case.specs.Case.{CaseData, IsCase, market, hospital, prefecture, group, title_of}
 
 groups-each : (sets : List (List ℕ)) (steps : List (List ℤ)) → length steps ≡ length sets → length (group_nodes sets steps) ≡ length sets
@@ -19,7 +19,7 @@ groups-each (set ∷ sets) (s ∷ steps) e = ap suc (groups-each sets steps (ome
 
 -- a node for each hospital and for each group
 pub nodes-each : (c : CaseData) → IsCase c → length (market c).board.nodes ≡ length c.roster.hospitals + length c.policy.groups.members
-unfolding board_of
+unfolding compiled_board
 nodes-each c is =
     omega (
       arith,

@@ -1,7 +1,7 @@
 -- The turns of hospitals in the orders of their prefectures.
-use Rattle.std.proofs.Common.{◌≡◌, ◌≢◌, ◌∙◌, ◌+◌, ◌*◌, ◌<◌, ◌≤◌, ◌||◌, ◌==◌, ℕ, zero, suc, Bool, true, false, cond, List, [], ◌∷◌, ◌++◌, length, get_or, set, take, map, max, Option, Some, inl, inr, refl, sym, ap, subst, arith, add-one, mul_comm, mul-le-mul, ℤ, All}
+use Rattle.std.proofs.Common.{◌≡◌, eqb, ◌≢◌, ◌∙◌, ◌+◌, ◌*◌, ◌<◌, ◌≤◌, ◌||◌, ◌==◌, ℕ, zero, suc, Bool, true, false, cond, List, [], ◌∷◌, ◌++◌, length, get_or, set, take, map, max, Option, Some, inl, inr, refl, sym, ap, subst, arith, add-one, mul_comm, mul-le-mul, ℤ, All}
 use Rattle.std.specs.Prelude.{find, fold, position}
-use Rattle.std.specs.List.{enumerate_from, position_from}
+use Rattle.std.specs.List.{IsDistinct, enumerate_from, position_from}
 use Rattle.std.specs.Option.{option_map_or}
 use Rattle.std.proofs.lemmas.Bool.{cases_eq, ne_eqb, eq-eqb, eqb-true}
 use Rattle.std.proofs.lemmas.Iterator.Adapters.{position_from-zero}
@@ -13,12 +13,12 @@ use Rattle.rm_flexible_laws.proofs.Pick.{capacity_le}
 use Rattle.rm_market.specs.Flexible.{Seat, full_worth, greatest_capacity_of}
 use Rattle.rm_policy.specs.Policy.{PolicyData}
 use Rattle.rm_roster.specs.Roster.{RosterData, IsRoster}
-use Rattle.rm_sets.specs.Sets.{has, below, IsIn, IsOnce}
+use Rattle.rm_sets.specs.Sets.{has, below, IsIn}
 use Rattle.rm_sets.proofs.Members.{IsIn-get_or, IsIn-all_below, not_in_from, place_from_IsIn}
-use Rattle.rm_sets.proofs.Once.{distinct_from_once, get_or-below, length-below}
+use Rattle.rm_sets.proofs.Once.{get_or-below, length-below, distinct_first, distinct_rest}
 use Rattle.rm_sets.proofs.Sets.{below-all_below, has-append, not_both}
 use Rattle.rm_case.specs.Compiled.{flexible_steps, order_of_prefecture, region_of, seat_of, steps_in_region}
-use Rattle.rm_case.specs.Fits.{Fits}
+use Rattle.rm_case.specs.Suits.{SuitsRoster}
 use Rattle.rm_case.specs.NodeSteps.{hospital_turn, orders_of, place_from_one, seats_region, turn_in, turn_steps, AreSome, IsTurn}
 use Rattle.rm_case.specs.declared.turns.Turn.{Turn}
 
@@ -29,21 +29,21 @@ order_known r order i d some lt = some.known (get_or order i d) (IsIn-get_or ord
 
 pub order_short : (r : RosterData) (order : List ℕ) → IsRoster r → AreSome r order → length order ≤ 10000
 order_short r order roster some =
-    let few = length-le_from_distinct_below order (length r.hospitals) (distinct_from_once order some.once) (λ h i. some.known h i) in
+    let few = length-le_from_distinct_below order (length r.hospitals) some.once (λ h i. some.known h i) in
     omega (arith, few, roster.few_hospitals)
 
 -- the hospitals in the order of prefecture q are those of the prefecture
-pub in_order : (r : RosterData) (p : PolicyData) (q h : ℕ) → Fits r p → q < length r.prefectures → IsIn h (order_of_prefecture r p q) → (h < length r.hospitals) × (get_or r.prefecture_of h 0 ≡ q)
+pub in_order : (r : RosterData) (p : PolicyData) (q h : ℕ) → SuitsRoster r p → q < length r.prefectures → IsIn h (order_of_prefecture r p q) → (h < length r.hospitals) × (get_or r.prefecture_of h 0 ≡ q)
 in_order r p q h fits lt i =
     let there = below-all_below (length r.hospitals) (λ k. get_or r.prefecture_of k 0 == q) h (sym ((fits.orders q lt).hospitals h) ∙ i) in
     (there.0, eqb-true (get_or r.prefecture_of h 0) q there.1)
 
-pub has_turn : (r : RosterData) (p : PolicyData) (h : ℕ) → Fits r p → get_or r.prefecture_of h 0 < length r.prefectures → h < length r.hospitals → IsIn h (order_of_prefecture r p (get_or r.prefecture_of h 0))
+pub has_turn : (r : RosterData) (p : PolicyData) (h : ℕ) → SuitsRoster r p → get_or r.prefecture_of h 0 < length r.prefectures → h < length r.hospitals → IsIn h (order_of_prefecture r p (get_or r.prefecture_of h 0))
 has_turn r p h fits lq lt =
     let q = get_or r.prefecture_of h 0 in
     (fits.orders q lq).hospitals h ∙ IsIn-all_below (length r.hospitals) (λ k. get_or r.prefecture_of k 0 == q) h lt (eq-eqb q q refl)
 
-pub some_in_order : (r : RosterData) (p : PolicyData) (q : ℕ) → Fits r p → q < length r.prefectures → AreSome r (order_of_prefecture r p q)
+pub some_in_order : (r : RosterData) (p : PolicyData) (q : ℕ) → SuitsRoster r p → q < length r.prefectures → AreSome r (order_of_prefecture r p q)
 some_in_order r p q fits lt = record { once = (fits.orders q lt).once; known = λ h i. (in_order r p q h fits lt i).0 }
 
 pub orders_long : (r : RosterData) (p : PolicyData) → length (orders_of r p) ≡ length r.prefectures
@@ -56,18 +56,18 @@ orders_at r p q lt =
 
 -- ---- the place of a hospital in an order
 
-place_from : (L : List ℕ) (o k : ℕ) → IsOnce L → k < length L → position_from (λ x. x == get_or L k 0) o L ≡ Some (o + k)
+place_from : (L : List ℕ) (o k : ℕ) → IsDistinct eqb L → k < length L → position_from (λ x. x == get_or L k 0) o L ≡ Some (o + k)
 place_from [] o k once lt = absurd (omega (arith, lt))
 place_from (y ∷ L) o zero once lt = rw (eq-eqb y y refl) (ap (λ (n : ℕ). Some n) (omega arith))
 place_from (y ∷ L) o (suc k) once lt =
-    let other : y ≢ get_or L k 0 = λ e. not_both (has y L) (subst (λ (z : ℕ). IsIn z L) (sym e) (IsIn-get_or L k 0 (omega (arith, lt)))) once.0 in
-    let rest = place_from L (o + 1) k once.1 (omega (arith, lt)) in
+    let other : y ≢ get_or L k 0 = λ e. not_both (has y L) (subst (λ (z : ℕ). IsIn z L) (sym e) (IsIn-get_or L k 0 (omega (arith, lt)))) (distinct_first y L once) in
+    let rest = place_from L (o + 1) k (distinct_rest y L once) (omega (arith, lt)) in
     rw (ne_eqb y (get_or L k 0) other) (rest ∙ ap (λ (n : ℕ). Some n) (omega arith))
 
-pub place_is : (order : List ℕ) (k : ℕ) → IsOnce order → k < length order → position (λ x. x == get_or order k 0) order ≡ Some k
+pub place_is : (order : List ℕ) (k : ℕ) → IsDistinct eqb order → k < length order → position (λ x. x == get_or order k 0) order ≡ Some k
 place_is order k once lt = position_from-zero (λ x. x == get_or order k 0) order ∙ place_from order 0 k once lt ∙ ap (λ (n : ℕ). Some n) (omega arith)
 
-place_one : (order : List ℕ) (k : ℕ) → IsOnce order → k < length order → place_from_one order (get_or order k 0) ≡ k + 1
+place_one : (order : List ℕ) (k : ℕ) → IsDistinct eqb order → k < length order → place_from_one order (get_or order k 0) ≡ k + 1
 place_one order k once lt = ap (λ (o : Option ℕ). option_map_or (λ n. n + 1) o 0) (place_is order k once lt)
 
 -- ---- turns that are given
@@ -103,7 +103,7 @@ given_one r order old turns i full some lt worth long before h t =
 
 -- ---- the turns of all prefectures
 
-pub turned_one : (r : RosterData) (p : PolicyData) (old new : List Turn) (q : ℕ) (order : List ℕ) → Fits r p → q < length r.prefectures → order ≡ order_of_prefecture r p q
+pub turned_one : (r : RosterData) (p : PolicyData) (old new : List Turn) (q : ℕ) (order : List ℕ) → SuitsRoster r p → q < length r.prefectures → order ≡ order_of_prefecture r p q
     → ((h : ℕ) (t : Turn) → h < length r.hospitals → get_or r.prefecture_of h 0 < q → get_or old h t ≡ hospital_turn r p h)
     → ((h : ℕ) (t : Turn) → get_or new h t ≡ cond (has h order) (turn_in r order h) (get_or old h t))
     → (h : ℕ) (t : Turn) → h < length r.hospitals → get_or r.prefecture_of h 0 < q + 1 → get_or new h t ≡ hospital_turn r p h
@@ -138,16 +138,16 @@ worth_fits r order greatest roster some few = product (length order) greatest (o
 
 -- ---- the steps of a turn are those of the region's seat
 
-find_seat : (r : RosterData) (order : List ℕ) (n k : ℕ) → IsOnce order → k < length order
+find_seat : (r : RosterData) (order : List ℕ) (n k : ℕ) → IsDistinct eqb order → k < length order
     → find (λ e. e.1.hospital == get_or order k 0) (enumerate_from n (map (seat_of r) order)) ≡ Some (n + k, seat_of r (get_or order k 0))
 find_seat r [] n k once lt = absurd (omega (arith, lt))
 find_seat r (y ∷ order) n zero once lt = rw (eq-eqb y y refl) (ap (λ (i : ℕ). Some (i, seat_of r y)) (omega arith))
 find_seat r (y ∷ order) n (suc k) once lt =
-    let other : y ≢ get_or order k 0 = λ e. not_both (has y order) (subst (λ (z : ℕ). IsIn z order) (sym e) (IsIn-get_or order k 0 (omega (arith, lt)))) once.0 in
-    let rest = find_seat r order (n + 1) k once.1 (omega (arith, lt)) in
+    let other : y ≢ get_or order k 0 = λ e. not_both (has y order) (subst (λ (z : ℕ). IsIn z order) (sym e) (IsIn-get_or order k 0 (omega (arith, lt)))) (distinct_first y order once) in
+    let rest = find_seat r order (n + 1) k (distinct_rest y order once) (omega (arith, lt)) in
     rw (ne_eqb y (get_or order k 0) other) (rest ∙ ap (λ (i : ℕ). Some (i, seat_of r (get_or order k 0))) (omega arith))
 
-steps_at : (r : RosterData) (p : PolicyData) (q k : ℕ) → IsOnce (order_of_prefecture r p q) → k < length (order_of_prefecture r p q)
+steps_at : (r : RosterData) (p : PolicyData) (q k : ℕ) → IsDistinct eqb (order_of_prefecture r p q) → k < length (order_of_prefecture r p q)
     → turn_steps (turn_in r (order_of_prefecture r p q) (get_or (order_of_prefecture r p q) k 0)) (get_or r.targets (get_or (order_of_prefecture r p q) k 0) 0) (get_or r.capacities (get_or (order_of_prefecture r p q) k 0) 0)
     ≡ steps_in_region (region_of r p q) (get_or (order_of_prefecture r p q) k 0)
 steps_at r p q k once lt =
@@ -156,7 +156,7 @@ steps_at r p q k once lt =
     let place : k + 1 ≡ 1 + k = omega arith in
     rw (find_seat r order 1 k once lt, place_one order k once lt, length-map order (seat_of r), place) refl
 
-pub steps_of_turn : (r : RosterData) (p : PolicyData) (h : ℕ) → IsRoster r → Fits r p → h < length r.hospitals → turn_steps (hospital_turn r p h) (get_or r.targets h 0) (get_or r.capacities h 0) ≡ flexible_steps r p h
+pub steps_of_turn : (r : RosterData) (p : PolicyData) (h : ℕ) → IsRoster r → SuitsRoster r p → h < length r.hospitals → turn_steps (hospital_turn r p h) (get_or r.targets h 0) (get_or r.capacities h 0) ≡ flexible_steps r p h
 steps_of_turn r p h roster fits lt =
     let q = get_or r.prefecture_of h 0 in
     let lq : q < length r.prefectures = roster.prefecture_of h 0 (omega (arith, lt, roster.prefecture_each)) in
@@ -210,7 +210,7 @@ turn_at r order k roster some lt =
       bounded = omega (arith, worth, all);
     }
 
-pub turn_fits : (r : RosterData) (p : PolicyData) (h : ℕ) → IsRoster r → Fits r p → h < length r.hospitals → IsTurn (hospital_turn r p h) (get_or r.targets h 0) (get_or r.capacities h 0)
+pub turn_fits : (r : RosterData) (p : PolicyData) (h : ℕ) → IsRoster r → SuitsRoster r p → h < length r.hospitals → IsTurn (hospital_turn r p h) (get_or r.targets h 0) (get_or r.capacities h 0)
 turn_fits r p h roster fits lt =
     let q = get_or r.prefecture_of h 0 in
     let lq : q < length r.prefectures = roster.prefecture_of h 0 (omega (arith, lt, roster.prefecture_each)) in
@@ -228,7 +228,7 @@ turn_is r p turns h t all lt at =
     let n = length r.hospitals in
     at ∙ (ap (λ (L : List Turn). get_or L h t) all ∙ (get_or-map (hospital_turn r p) (below n) h 0 t (omega (arith, lt, length-below n)) ∙ ap (hospital_turn r p) (get_or-below n h 0 lt)))
 
-pub steps_pushed : (r : RosterData) (p : PolicyData) (now new : List (List ℤ)) (h target capacity : ℕ) (t : Turn) (own : List ℤ) → IsRoster r → Fits r p → h < length r.hospitals
+pub steps_pushed : (r : RosterData) (p : PolicyData) (now new : List (List ℤ)) (h target capacity : ℕ) (t : Turn) (own : List ℤ) → IsRoster r → SuitsRoster r p → h < length r.hospitals
     → now ≡ map (flexible_steps r p) (below h) → new ≡ now ++ own ∷ [] → own ≡ turn_steps t target capacity → t ≡ hospital_turn r p h → target ≡ get_or r.targets h 0 → capacity ≡ get_or r.capacities h 0
     → new ≡ map (flexible_steps r p) (below (h + 1))
 steps_pushed r p now new h target capacity t own roster fits lt before pushed steps turn reached seats =

@@ -22,7 +22,7 @@ use Rattle.rm_policy.specs.Values.{document_of}
 use Rattle.rm_policy.specs.declared.Ties.{Ties}
 use Rattle.rm_policy.specs.declared.Ties.TheVariants as ties
 use Rattle.rm_case.specs.Folder.{Folder, folder_of, file_checks, rows_in, folder_roster}
-use Rattle.rm_case.specs.Compiled.{board_of, regions_of}
+use Rattle.rm_case.specs.Compiled.{compiled_board, regions_of}
 use Rattle.rm_case.specs.declared.case.NodeName.{NodeName}
 use Rattle.rm_case.specs.declared.case.NodeName.TheVariants as name
 
@@ -93,7 +93,7 @@ abbrev pub case_of : Folder → CaseData
 case_of f = record { roster = folder_roster f; policy = folder_policy f }
 
 abbrev pub market : CaseData → Market
-market c = record { board = board_of c.roster c.policy; lists = c.roster.lists }
+market c = record { board = compiled_board c.roster c.policy; lists = c.roster.lists }
 
 abbrev pub regions : CaseData → List Region
 regions c = regions_of c.roster c.policy
@@ -113,7 +113,7 @@ pub record IsCase (c : CaseData) : Type 0 where
   pub market : IsMarket (market c)
 
 -- what is kept with a case: its board and the doctors' listed contracts
-pub record IsKept (c : CaseData) (b : Board) (lists : List (List ℕ)) : Type 0 where
+pub record IsCaseKept (c : CaseData) (b : Board) (lists : List (List ℕ)) : Type 0 where
   pub case : IsCase c
   pub board : b ≡ (market c).board
   pub listed : lists ≡ (wishes_of (market c)).listed

@@ -68,5 +68,5 @@ tie_order_of r p ties.ByHospital = by_hospital r.ranks
 tie_order_of r p ties.Listed = listed_order r.ranks p.listed
 
 -- each hospital is a leaf and the node of that leaf, and then follow the groups
-unfoldable pub board_of : RosterData → PolicyData → Board
-board_of r p = hospital_board r.ranks (compiled_steps r p) (group_nodes p.groups.members p.groups.steps) (tie_order_of r p p.ties)
+unfoldable pub compiled_board : RosterData → PolicyData → Board
+compiled_board r p = hospital_board r.ranks (compiled_steps r p) (group_nodes p.groups.members p.groups.steps) (tie_order_of r p p.ties)

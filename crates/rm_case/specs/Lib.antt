@@ -2,7 +2,7 @@ pub mod Folder
 pub mod Compiled
 pub mod Case
 pub mod Parts
-pub mod Fits
+pub mod Suits
 pub mod NodeSteps
 pub mod Loading
 pub mod Fetching

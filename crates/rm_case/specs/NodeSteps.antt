@@ -1,13 +1,13 @@
 -- The steps of a board's nodes, and the turns of hospitals in the orders of their prefectures.
 use Rattle.std.specs.Prelude.{ℕ, ◌+◌, ◌-◌, ◌*◌, ◌<◌, ◌≤◌, ◌==◌, List, [], ◌∷◌, ◌++◌, map, get_or, length, set, Option, Some, None, ℤ, pos, ◌-ℤ◌, int_lt, position, if◌then◌else◌}
-use Rattle.std.specs.List.{range_with_len}
+use Rattle.std.specs.List.{IsDistinct, range_with_len}
 use Rattle.std.specs.Option.{option_map_or}
 use Rattle.rm_market.specs.Tree.{below}
 use Rattle.rm_market.specs.Flexible.{Region, full_worth, seat_worth}
 use Rattle.rm_market.specs.declared.Run.{Run}
 use Rattle.rm_roster.specs.Roster.{RosterData}
 use Rattle.rm_policy.specs.Policy.{PolicyData}
-use Rattle.rm_sets.specs.Sets.{IsIn, IsOnce}
+use Rattle.rm_sets.specs.Sets.{IsIn}
 use Rattle.rm_case.specs.Compiled.{compiled_steps, order_of_prefecture, seat_of}
 use Rattle.rm_case.specs.declared.turns.Turn.{Turn}
 
@@ -66,5 +66,5 @@ pub record IsTurn (t : Turn) (target capacity : ℕ) : Type 0 where
 
 -- an order of some hospitals of the roster, each once
 pub record AreSome (r : RosterData) (order : List ℕ) : Type 0 where
-  pub once : IsOnce order
+  pub once : IsDistinct ◌==◌ order
   pub known : (h : ℕ) → IsIn h order → h < length r.hospitals

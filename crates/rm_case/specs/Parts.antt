@@ -4,7 +4,7 @@ use Rattle.rm_base.specs.Checks.{first_of}
 use Rattle.rm_base.specs.Reading.{Stops}
 use Rattle.rm_base.specs.declared.ReadFault.{ReadFault}
 use Rattle.rm_case.specs.Folder.{Folder, folder_roster}
-use Rattle.rm_case.specs.Case.{CaseData, IsKept, board_checks, folder_policy, folder_refusal, policy_file_checks, table_checks}
+use Rattle.rm_case.specs.Case.{CaseData, IsCaseKept, board_checks, folder_policy, folder_refusal, policy_file_checks, table_checks}
 use Rattle.rm_case.specs.declared.case.Parts.{Parts}
 use Rattle.rm_case.specs.declared.load.FolderData.{FolderData}
 
@@ -16,5 +16,5 @@ ReadsFiles f (Err e) = Stops (folder_refusal f) e
 
 -- what is kept with a case, or the first refusal of its board
 abbrev pub Compiles : CaseData → Result Parts ReadFault → Type 0
-Compiles c (Ok parts) = (first_of (board_checks c.roster c.policy) ≡ None) × IsKept c parts.board parts.listed
+Compiles c (Ok parts) = (first_of (board_checks c.roster c.policy) ≡ None) × IsCaseKept c parts.board parts.listed
 Compiles c (Err e) = Stops (first_of (board_checks c.roster c.policy)) e

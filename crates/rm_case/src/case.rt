@@ -5,7 +5,7 @@ ghost use Rattle.rm_base.specs.Checks.{first_of};
 ghost use Rattle.rm_base.specs.Reading.{Reads};
 ghost use Rattle.rm_market.specs.Market.{wishes_of};
 ghost use Rattle.rm_case.specs.Case.{IsCase, board_checks, market, stands_for, title_of};
-ghost use Rattle.rm_case.specs.Fits.{Fits};
+ghost use Rattle.rm_case.specs.Suits.{SuitsRoster};
 ghost use Rattle.rm_case.specs.Parts.{Compiles};
 
 use crate::compile::compile;
@@ -27,13 +27,13 @@ pub struct Case {
 }
 
 impl Model for Case {
-    ghost use Rattle.rm_case.specs.Case.{CaseData, IsKept};
+    ghost use Rattle.rm_case.specs.Case.{CaseData, IsCaseKept};
 
     ghost Value = { CaseData };
 
     ghost view = { λ c. record { roster = c.roster; policy = c.policy } };
 
-    ghost invariant = { λ c. IsKept (record { roster = c.roster; policy = c.policy }) c.board c.listed };
+    ghost invariant = { λ c. IsCaseKept (record { roster = c.roster; policy = c.policy }) c.board c.listed };
 }
 
 /// What is kept beside the files' content: the board, and per doctor his listed contracts.
@@ -45,7 +45,7 @@ pub struct Parts {
 
 // The parts that a roster and a policy make, or the first refusal of the policy's groups and of its tie order.
 fn parts_of(alloc: Global, roster: &Roster, policy: &Policy) -> Result<Parts, ReadFault>
-    requires { Fits roster.now policy.now }
+    requires { SuitsRoster roster.now policy.now }
     ensures { Compiles (record { roster = roster.now; policy = policy.now }) result }
 {
     let board = match compile(alloc, roster, policy) {
@@ -69,7 +69,7 @@ pub enum NodeName<'a> {
 impl Case {
     // The case of a roster and of a policy for its hospitals, or the first refusal of the policy's groups and of its tie order.
     pub(crate) fn build(alloc: Global, roster: Roster, policy: Policy) -> Result<Case, ReadFault>
-        requires { Fits roster policy }
+        requires { SuitsRoster roster policy }
         ensures { Reads (first_of (board_checks roster policy)) (record { roster = roster; policy = policy }) result }
     {
         match parts_of(alloc, &roster, &policy) {

@@ -5,8 +5,8 @@ ghost use Rattle.rm_base.specs.Checks.{first_of};
 ghost use Rattle.rm_base.specs.Codes.{refuse};
 ghost use Rattle.rm_base.specs.Reading.{Reads};
 ghost use Rattle.rm_case.specs.Case.{IsCase, board_checks};
-ghost use Rattle.rm_case.specs.Compiled.{board_of};
-ghost use Rattle.rm_case.specs.Fits.{Fits, tree_read_fault, ties_read_fault, IsRuleOf};
+ghost use Rattle.rm_case.specs.Compiled.{compiled_board};
+ghost use Rattle.rm_case.specs.Suits.{SuitsRoster, tree_read_fault, ties_read_fault, IsRuleOf};
 
 use crate::node_steps::node_steps;
 use rm_base::codes::{
@@ -73,8 +73,8 @@ fn tie_rule(policy: &Policy) -> TieRule<'_>
 /// has a hospital in too many groups, told by its item; and else, where the ties are listed, the first element that is no
 /// contract, stands before or goes against a rank list, or the least contract that the list lacks.
 pub(crate) fn compile(alloc: Global, roster: &Roster, policy: &Policy) -> Result<Board, ReadFault>
-    requires { Fits roster.now policy.now }
-    ensures board { Reads (first_of (board_checks roster.now policy.now)) (board_of roster.now policy.now) result }
+    requires { SuitsRoster roster.now policy.now }
+    ensures board { Reads (first_of (board_checks roster.now policy.now)) (compiled_board roster.now policy.now) result }
     ensures case { OnOk result (IsCase (record { roster = roster.now; policy = policy.now })) }
 {
     let hospitals = roster.hospitals().len();

@@ -18,3 +18,6 @@ pub use case::{Case, NodeName};
 pub use fault::{LoadFault, OwnFault};
 pub use offers::Offers;
 pub use own_file::fetch_own;
+
+#[cfg(test)]
+mod tests;

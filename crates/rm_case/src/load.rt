@@ -9,7 +9,7 @@ ghost use Rattle.rm_outside.specs.Outside.{Tells};
 ghost use Rattle.rm_roster.specs.Roster.{IsRoster};
 ghost use Rattle.rm_case.specs.Folder.{Folder, folder_of, folder_roster};
 ghost use Rattle.rm_case.specs.Case.{case_of, folder_refusal, policy_file_checks, policy_in, table_checks};
-ghost use Rattle.rm_case.specs.Fits.{Fits};
+ghost use Rattle.rm_case.specs.Suits.{SuitsRoster};
 ghost use Rattle.rm_case.specs.Fetching.{TellsFolder, TellsTables};
 ghost use Rattle.rm_case.specs.Loading.{LoadFails, Loads};
 ghost use Rattle.rm_case.specs.Parts.{ReadsFiles};
@@ -64,7 +64,7 @@ fn read_roster(
 fn read_policy(alloc: Global, fetched: Fetched, roster: &Roster) -> Result<Policy, ReadFault>
     requires { IsRoster roster.now }
     ensures reads { (told : Option Text) → Tells told MOST_BYTES fetched → Reads (first_of (policy_file_checks roster.now told)) (policy_in roster.now told) result }
-    ensures fits { IfOk result (Fits roster.now) }
+    ensures fits { IfOk result (SuitsRoster roster.now) }
 {
     match fetched {
         Fetched::Absent => Ok(Policy::plain(alloc)),
@@ -79,7 +79,7 @@ fn read_policy(alloc: Global, fetched: Fetched, roster: &Roster) -> Result<Polic
 // What a folder's files say, or the first refusal of the tables and of the policy file.
 fn read_files(alloc: Global, fetches: Fetches) -> Result<FolderData, ReadFault>
     ensures reads { (f : Folder) → TellsFolder f fetches → ReadsFiles f result }
-    ensures fits { IfOk result (λ told. Fits told.roster told.policy) }
+    ensures fits { IfOk result (λ told. SuitsRoster told.roster told.policy) }
 {
     let roster = match read_roster(alloc, fetches.hospitals, fetches.doctors, fetches.ranks) {
         Ok(roster) => roster,

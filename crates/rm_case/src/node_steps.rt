@@ -4,7 +4,7 @@ ghost use Rattle.std.specs.Prelude.{◌≡◌, ◌<◌, ◌++◌, map, length, I
 ghost use Rattle.rm_market.specs.Tree.{below};
 ghost use Rattle.rm_roster.specs.Roster.{IsRoster};
 ghost use Rattle.rm_case.specs.Compiled.{flexible_steps, own_steps};
-ghost use Rattle.rm_case.specs.Fits.{Fits};
+ghost use Rattle.rm_case.specs.Suits.{SuitsRoster};
 ghost use Rattle.rm_case.specs.NodeSteps.{node_steps, turn_steps};
 
 use crate::turns::{Turn, turn_steps, turns};
@@ -39,7 +39,7 @@ fn own_steps(alloc: Global, roster: &Roster, policy: &Policy) -> Result<Vec<Step
 
 // The steps of each hospital where the policy is flexible.
 fn flexible_steps(alloc: Global, roster: &Roster, policy: &Policy) -> Result<Vec<Steps>, NoMemory>
-    requires { Fits roster.now policy.now }
+    requires { SuitsRoster roster.now policy.now }
     ensures { IfOk result (λ v. v.items ≡ map (flexible_steps roster.now policy.now) (below (length roster.now.hospitals))) }
 {
     let turns = turns(alloc, roster, policy)?;
@@ -69,7 +69,7 @@ fn push_groups(alloc: Global, policy: &Policy, steps: &mut Vec<Steps>) -> Result
 
 /// The steps of each hospital, and then those of each group.
 pub fn node_steps(alloc: Global, roster: &Roster, policy: &Policy) -> Result<Vec<Steps>, NoMemory>
-    requires { Fits roster.now policy.now }
+    requires { SuitsRoster roster.now policy.now }
     ensures { IfOk result (λ v. v.items ≡ node_steps roster.now policy.now) }
 {
     let mut steps = match policy.kind() {

@@ -1,12 +1,13 @@
 // Offers: the contracts of a command's own file.
 
-ghost use Rattle.std.specs.Prelude.{◌≡◌, ◌↔◌, ◌<◌, ℕ, length, get_or, None, Some, All, IfOk, IfErr, OnOk};
+ghost use Rattle.std.specs.List.{IsDistinct};
+ghost use Rattle.std.specs.Prelude.{◌≡◌, ◌==◌, ◌↔◌, ◌<◌, ℕ, length, get_or, None, Some, All, IfOk, IfErr, OnOk};
 ghost use Rattle.rm_base.specs.Checks.{checks_of, first_of};
 ghost use Rattle.rm_base.specs.Codes.{refuse};
 ghost use Rattle.rm_base.specs.declared.codes.TheConstants.{OWN_FILE};
 ghost use Rattle.rm_market.specs.Board.{contract_count};
 ghost use Rattle.rm_roster.specs.Cells.{data_rows};
-ghost use Rattle.rm_sets.specs.Sets.{IsIn, IsOnce, IsSet};
+ghost use Rattle.rm_sets.specs.Sets.{IsIn, IsSet};
 ghost use Rattle.rm_case.specs.Case.{market};
 ghost use Rattle.rm_case.specs.Own.{ReadsOwn, StopsOwn, contracts_in, offer_checks, offer_table_checks, offers_of, row_checks, row_contract};
 
@@ -28,14 +29,14 @@ pub struct Offers {
 }
 
 impl Model for Offers {
-    ghost use Rattle.std.specs.Prelude.{List, ℕ};
-    ghost use Rattle.rm_sets.specs.Sets.{IsOnce};
+    ghost use Rattle.std.specs.Prelude.{List, ℕ, ◌==◌};
+    ghost use Rattle.std.specs.List.{IsDistinct};
 
     ghost Value = { List ℕ };
 
     ghost view = { λ o. o.contracts.items };
 
-    ghost invariant = { λ o. IsOnce o.contracts.items };
+    ghost invariant = { λ o. IsDistinct ◌==◌ o.contracts.items };
 }
 
 impl Offers {
@@ -79,7 +80,7 @@ impl Offers {
     /// The contracts, in the order of the file.
     pub fn contracts(&self) -> &[u32]
         ensures contracts { result.now ≡ self.entry.now }
-        ensures once { IsOnce self.entry.now }
+        ensures once { IsDistinct ◌==◌ self.entry.now }
     {
         &self.contracts
     }

@@ -6,7 +6,7 @@ ghost use Rattle.rm_market.specs.Tree.{below};
 ghost use Rattle.rm_policy.specs.Policy.{IsPolicy};
 ghost use Rattle.rm_policy.specs.Prefectures.{hospitals_in};
 ghost use Rattle.rm_roster.specs.Roster.{IsRoster};
-ghost use Rattle.rm_case.specs.Fits.{Fits};
+ghost use Rattle.rm_case.specs.Suits.{SuitsRoster};
 ghost use Rattle.rm_case.specs.NodeSteps.{orders_of, with_order};
 
 use rm_policy::Policy;
@@ -96,7 +96,7 @@ impl Orders {
 
     /// The hospitals of each prefecture in the order of their turns: that of its entry, or else that of their rows.
     pub fn read(alloc: Global, roster: &Roster, policy: &Policy) -> Result<Orders, NoMemory>
-        requires fits { Fits roster.now policy.now }
+        requires fits { SuitsRoster roster.now policy.now }
         requires roster { IsRoster roster.now }
         ensures { IfOk result (λ o. o ≡ orders_of roster.now policy.now) }
     {

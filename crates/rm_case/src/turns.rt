@@ -6,7 +6,7 @@ ghost use Rattle.rm_market.specs.Tree.{below};
 ghost use Rattle.rm_market.specs.Flexible.{full_worth, greatest_capacity_of};
 ghost use Rattle.rm_roster.specs.Roster.{IsRoster};
 ghost use Rattle.rm_sets.specs.Sets.{has};
-ghost use Rattle.rm_case.specs.Fits.{Fits};
+ghost use Rattle.rm_case.specs.Suits.{SuitsRoster};
 ghost use Rattle.rm_case.specs.NodeSteps.{at_once, hospital_turn, in_turns, seats_region, turn_in, turn_steps, with_steps, AreSome, IsTurn};
 
 use crate::orders::Orders;
@@ -76,7 +76,7 @@ fn give_turns(roster: &Roster, order: &[u32], turns: &mut Vec<Turn>)
 
 /// The turn of each hospital in the order of its prefecture.
 pub fn turns(alloc: Global, roster: &Roster, policy: &Policy) -> Result<Vec<Turn>, NoMemory>
-    requires { Fits roster.now policy.now }
+    requires { SuitsRoster roster.now policy.now }
     ensures { IfOk result (λ v. v.items ≡ map (hospital_turn roster.now policy.now) (below (length roster.now.hospitals))) }
 {
     let mut turns = vec![in alloc; NO_TURN; roster.hospitals().len() as usize]?;

@@ -4,7 +4,7 @@ use Rattle.std.proofs.lemmas.List.{get_or-map}
 use Rattle.rm_market.specs.Board.{contracts, contract_count, doctor_of, owners_of}
 use Rattle.rm_market.specs.Market.{wishes_of}
 use Rattle.rm_market_laws.proofs.Wishes.{are_wishes, listed_long}
-use Rattle.rm_case.specs.Compiled.{board_of}
+use Rattle.rm_case.specs.Compiled.{compiled_board}
 use Rattle.rm_case.specs.Case.{CaseData, IsCase, market}
 
 pub doctor-named : (c : CaseData) (x : ℕ) → IsCase c → x < contract_count (market c).board → doctor_of (market c).board x < length c.roster.doctors
@@ -13,5 +13,5 @@ doctor-named c x is low =
 
 -- there is a rank list for each hospital
 pub ranks-each : (c : CaseData) → IsCase c → length (market c).board.ranks ≡ length c.roster.hospitals
-unfolding board_of
+unfolding compiled_board
 ranks-each c is = is.roster.rank_each

@@ -7,7 +7,7 @@ use Rattle.rm_market.specs.Tree.{depth, chain}
 use Rattle.rm_market.specs.declared.CertRow.{CertRow}
 use Rattle.rm_policy.specs.declared.Kind.TheVariants.{Steps}
 use Rattle.rm_policy.specs.declared.Ties.TheVariants.{ByRank}
-use Rattle.rm_case.specs.Compiled.{board_of}
+use Rattle.rm_case.specs.Compiled.{compiled_board}
 use Rattle.rm_case.specs.Case.{CaseData, market}
 use Rattle.rm_report.specs.Texts.{csv_text, placement_text, listed_count, tree_depth, number_line, certificate_row}
 use Rattle.csv.specs.Writing.{escaped, fields_text, is_blank}
@@ -41,19 +41,19 @@ unfolding placement_text csv_text escaped fields_text is_blank
 placed = refl
 
 contracts-counted : contract_count (market small).board ≡ 4
-unfolding board_of
+unfolding compiled_board
 contracts-counted = refl
 
 listed-counted : listed_count small ≡ 4
-unfolding board_of
+unfolding compiled_board
 listed-counted = refl
 
 nodes-counted : length (market small).board.nodes ≡ 3
-unfolding board_of
+unfolding compiled_board
 nodes-counted = refl
 
 depth-counted : tree_depth (market small).board ≡ 3
-unfolding board_of depth chain sets.minus
+unfolding compiled_board depth chain sets.minus
 depth-counted = refl
 
 line-written : number_line (codes "depth") 3 ≡ codes "depth 3\n"
@@ -63,5 +63,5 @@ line-written = refl
 certified :
     certificate_row small (record { contract = 2; kept = false; change = Some (negsuc 4); full = Some 1; swap = Some (record { out = 0; change = pos 7 }) })
     ≡ codes "C" ∷ codes "H,1" ∷ codes "refused" ∷ codes "-5" ∷ codes "prefecture P" ∷ codes "A" ∷ codes "H,1" ∷ codes "7" ∷ []
-unfolding board_of digits
+unfolding compiled_board digits
 certified = refl

@@ -18,7 +18,7 @@ use Rattle.rm_case.specs.declared.fault.LoadFault.TheVariants as fault
 use Rattle.rm_top.specs.Answers.{IsAccepted, IsChoiceText}
 use Rattle.rm_top.specs.Command.{Command, choose, folder_in, file_of, own_refusal, refusal_of}
 use Rattle.rm_top.specs.Ending.{Seen, EndsCommand}
-use Rattle.rm_top.specs.Telling.{HasCaseText, HasText, SaysWhy, Stops, StopsOnCase}
+use Rattle.rm_top.specs.Telling.{HasCaseText, HasText, SaysWhy, StopsWith, StopsOnCase}
 use Rattle.rm_top.specs.declared.ending.Ending.{Ending}
 use Rattle.rm_top.specs.declared.ending.Ending.TheVariants as end
 
@@ -51,7 +51,7 @@ refused_own (Some fs) command c r loads own = rw (loaded fs (folder_in command) 
 
 -- what stops a command on its case stops the command
 pub stops_later : (files : Option Files) (before between after : ℕ) (blame : Option (Option Text)) (command : Command) (c : CaseData) (f : LoadFault)
-    → IfSome files (λ fs. Loads (folder_of fs (folder_in command)) (Ok c)) → before ≤ between → StopsOnCase files between after blame command c f → Stops files before after blame command f
+    → IfSome files (λ fs. Loads (folder_of fs (folder_in command)) (Ok c)) → before ≤ between → StopsOnCase files between after blame command c f → StopsWith files before after blame command f
 stops_later files before between after blame command c (fault.Refused r) loads le h = refused_own files command c r loads h
 stops_later files before between after blame command c (fault.Read file) loads le (name, own, is, failed) =
     (risen_later before between after le failed.0, record { name = name; file_is = rw own is; needed = λ e. accepted files command c loads; blamed = failed.1 })
@@ -69,7 +69,7 @@ of_folder : (command : Command) (file : ℕ) (name : Text) → file_in (folder_i
 of_folder command file name e = rw (ne_eqb file OWN_FILE (not_own (folder_in command) name file e)) e
 
 folder_stops : (files : Option Files) (before after : ℕ) (blame : Option (Option Text)) (command : Command) (f : LoadFault)
-    → IfSome files (λ fs. Loads (folder_of fs (folder_in command)) (Err f)) → LoadFails {A = CaseData} before after blame (folder_in command) (Err f) → Stops files before after blame command f
+    → IfSome files (λ fs. Loads (folder_of fs (folder_in command)) (Err f)) → LoadFails {A = CaseData} before after blame (folder_in command) (Err f) → StopsWith files before after blame command f
 folder_stops files before after blame command (fault.Refused r) loads fails = refused_folder files command r loads
 folder_stops files before after blame command (fault.Read file) loads (name, is, failed) =
     (failed.0, record { name = name; file_is = of_folder command file name is; needed = λ own. absurd (not_own (folder_in command) name file is own); blamed = failed.1 })
@@ -77,7 +77,7 @@ folder_stops files before after blame command fault.NoMemory loads fails = tt
 
 -- what stops the loading of its folder stops the command
 pub stops_first : (files : Option Files) (before after : ℕ) (blame : Option (Option Text)) (command : Command) (F : Text) (f : LoadFault) → F ≡ folder_in command
-    → IfSome files (λ fs. Loads (folder_of fs F) (Err f)) → LoadFails {A = CaseData} before after blame F (Err f) → Stops files before after blame command f
+    → IfSome files (λ fs. Loads (folder_of fs F) (Err f)) → LoadFails {A = CaseData} before after blame F (Err f) → StopsWith files before after blame command f
 stops_first files before after blame command F f same loads fails =
     folder_stops files before after blame command f
     (subst (λ G. IfSome files (λ fs. Loads (folder_of fs G) (Err f))) same loads)
@@ -119,7 +119,7 @@ file_stops files before after blame own c fault.NoMemory loads fails F = tt
 -- ---- of an ending
 
 -- a command without a text ends so
-pub ends_without : (s : Seen) (command : Command) (f : LoadFault) (e : Ending) → Stops s.files s.shelf_before s.shelf_after s.blame command f → SaysWhy f e → s.after ≡ s.before → EndsCommand s command e
+pub ends_without : (s : Seen) (command : Command) (f : LoadFault) (e : Ending) → StopsWith s.files s.shelf_before s.shelf_after s.blame command f → SaysWhy f e → s.after ≡ s.before → EndsCommand s command e
 ends_without s command f end.Written stops says still = absurd says
 ends_without s command f end.BadWords stops says still = absurd says
 ends_without s command f (end.Refused text) stops (r, is, says) still = ((r, says, rw is at stops), still)

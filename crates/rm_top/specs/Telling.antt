@@ -39,10 +39,10 @@ HasNoRefusal files c = IfSome files (λ fs. refusal_of fs c ≡ None)
 abbrev pub HasText : Option Files → Command → Text → Type 0
 HasText files command text = IsTextOf files command text × HasNoRefusal files command
 
-abbrev pub Stops : Option Files → ℕ → ℕ → Option (Option Text) → Command → LoadFault → Type 0
-Stops files before after blame command (fault.Refused r) = IfSome files (λ fs. refusal_of fs command ≡ Some r)
-Stops files before after blame command (fault.Read file) = HasRisen before after × FailedOn files blame command file
-Stops files before after blame command fault.NoMemory = Unit {0}
+abbrev pub StopsWith : Option Files → ℕ → ℕ → Option (Option Text) → Command → LoadFault → Type 0
+StopsWith files before after blame command (fault.Refused r) = IfSome files (λ fs. refusal_of fs command ≡ Some r)
+StopsWith files before after blame command (fault.Read file) = HasRisen before after × FailedOn files blame command file
+StopsWith files before after blame command fault.NoMemory = Unit {0}
 
 -- an ending that says why there is no text; memory may be wanting for that
 abbrev pub SaysWhy : LoadFault → Ending → Type 0

@@ -3,7 +3,7 @@
 ghost use Rattle.std.specs.Prelude.{◌≡◌, ◌≤◌, IfErr, IfOk, IfSome};
 ghost use Rattle.rm_top.specs.Answers.{IsPlacementText};
 ghost use Rattle.rm_top.specs.Command.{meant};
-ghost use Rattle.rm_top.specs.Telling.{Stops, StopsOnCase, HasText, HasCaseText};
+ghost use Rattle.rm_top.specs.Telling.{StopsWith, StopsOnCase, HasText, HasCaseText};
 
 use crate::NoMemory;
 use crate::choosing::choose_text;
@@ -52,7 +52,7 @@ pub fn text_of<S: Shelf>(
     shelf: &mut S,
 ) -> Result<Vec<u8>, LoadFault>
     ensures text { IfOk result (λ text. HasText (S.files shelf.old) (meant command.entry) text.items) }
-    ensures stops { IfErr result (λ fault. Stops (S.files shelf.old) (S.faults shelf.old) (S.faults shelf.new) (S.blame shelf.new) (meant command.entry) fault) }
+    ensures stops { IfErr result (λ fault. StopsWith (S.files shelf.old) (S.faults shelf.old) (S.faults shelf.new) (S.blame shelf.new) (meant command.entry) fault) }
     ensures files { S.files shelf.new ≡ S.files shelf.old }
 {
     let case = match Case::load(alloc, shelf, command.folder()) {

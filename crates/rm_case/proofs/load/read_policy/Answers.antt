@@ -1,5 +1,5 @@
 use Rattle.std.proofs.Common.{Ok, Err}
-use Rattle.rm_case.proofs.FitsLemmas.{fits_plain, fits_read}
+use Rattle.rm_case.proofs.SuitsLemmas.{fits_plain, fits_read}
 use Rattle.rm_case.proofs.FolderChecks.{long-stops, plain-reads, policy-reads}
 use Rattle.rm_case.proofs.load.read_policy.Goals as goal
 

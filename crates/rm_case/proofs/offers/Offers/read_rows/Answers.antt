@@ -1,6 +1,15 @@
-use Rattle.std.proofs.Common.{arith}
+use Rattle.std.proofs.Common.{◌≡◌, [], None, replicate, arith, rules}
+use Rattle.rm_market.specs.Board.{contract_count}
+use Rattle.rm_case.specs.Case.{market}
 use Rattle.rm_case.proofs.OfferRows.{none-offered, one-more, one-refused, all-offered, stops-own}
 use Rattle.rm_case.proofs.offers.Offers.read_rows.Goals as goal
+
+pub loop-i-init : goal.loop-i-init
+loop-i-init c =
+    let rows : c.in-Ok.rows.items ≡ replicate c.contracts.result None = search rules in
+    let count : c.contracts.result ≡ contract_count (market c.args.case.now).board = search rules in
+    let none : c.new-contracts.result.items ≡ [] = search rules in
+    rw (rows, none) (none-offered c.args.case.now c.args.table.now c.contracts.result count)
 
 pub returns-in-Err-clause-reads : goal.returns-in-Err-clause-reads
 returns-in-Err-clause-reads c =

@@ -1,5 +1,6 @@
 -- What is needed of a policy for a roster, so that the two make a board, and the refusals of its groups and of its tie order.
-use Rattle.std.specs.Prelude.{◌≡◌, ℕ, ◌<◌, List, length, take, get_or, None, IfSome, All}
+use Rattle.std.specs.List.{IsDistinct}
+use Rattle.std.specs.Prelude.{◌≡◌, ◌==◌, ℕ, ◌<◌, List, length, take, get_or, None, IfSome, All}
 use Rattle.rm_base.specs.Names.{AreDistinct}
 use Rattle.rm_base.specs.declared.ReadFault.{ReadFault}
 use Rattle.rm_base.specs.declared.ReadFault.TheVariants as fault
@@ -11,7 +12,7 @@ use Rattle.rm_market.specs.declared.TreeFault.{TreeFault}
 use Rattle.rm_market.specs.declared.TreeFault.TheVariants as tree
 use Rattle.rm_market.specs.declared.BoardFault.{BoardFault}
 use Rattle.rm_market.specs.declared.BoardFault.TheVariants as board
-use Rattle.rm_sets.specs.Sets.{has, IsSetBelow, IsOnce}
+use Rattle.rm_sets.specs.Sets.{has, IsSetBelow}
 use Rattle.rm_policy.specs.Policy.{PolicyData}
 use Rattle.rm_policy.specs.Prefectures.{hospitals_in}
 use Rattle.rm_policy.specs.declared.Ties.TheVariants as ties
@@ -21,11 +22,11 @@ use Rattle.rm_case.specs.Case.{tree_refusal, ties_refusal}
 
 -- an order of the hospitals of prefecture q, each once
 pub record IsOrderOf (r : RosterData) (q : ℕ) (order : List ℕ) : Type 0 where
-  pub once : IsOnce order
+  pub once : IsDistinct ◌==◌ order
   pub hospitals : (h : ℕ) → has h order ≡ has h (hospitals_in r q)
 
 -- a policy for the hospitals of a roster
-pub record Fits (r : RosterData) (p : PolicyData) : Type 0 where
+pub record SuitsRoster (r : RosterData) (p : PolicyData) : Type 0 where
   -- each group is a set of hospitals
   pub groups : All (λ g. IsSetBelow (length r.hospitals) g) p.groups.members
   -- no steps rise

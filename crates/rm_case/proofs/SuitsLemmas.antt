@@ -1,7 +1,7 @@
 -- A policy that was read for a roster fits it, and so does the plain policy.
-use Rattle.std.proofs.Common.{◌≡◌, ◌∙◌, ◌+◌, ◌<◌, ◌==◌, ◌&&◌, ℕ, Bool, true, false, cond, not, List, [], ◌∷◌, ◌++◌, length, get_or, map, take, Option, Some, None, IfSome, Ok, All, inl, inr, refl, sym, ap, subst, arith, ⊎_elim}
+use Rattle.std.proofs.Common.{◌≡◌, eqb, ◌∙◌, ◌+◌, ◌<◌, ◌==◌, ◌&&◌, ℕ, Bool, true, false, cond, not, List, [], ◌∷◌, ◌++◌, length, get_or, map, take, Option, Some, None, IfSome, Ok, All, inl, inr, refl, sym, ap, subst, arith, ⊎_elim}
 use Rattle.std.specs.Prelude.{option_and_then, option_map, unwrap_or}
-use Rattle.std.specs.List.{cons_option}
+use Rattle.std.specs.List.{IsDistinct, cons_option}
 use Rattle.std.specs.Str.{bytes_eq}
 use Rattle.std.proofs.lemmas.Bool.{cases_lt, eq-eqb, eqb-true}
 use Rattle.std.proofs.lemmas.List.{get_or-map, get_or_append_left, get_or_past, length-map, map-append, take_at}
@@ -21,11 +21,11 @@ use Rattle.rm_board_laws.proofs.HospitalBoards.{zeros_fall}
 use Rattle.rm_market.specs.Board.{IsFalling}
 use Rattle.rm_market.specs.Steps.{step_fault, steps_of}
 use Rattle.rm_market.specs.declared.Run.{Run}
-use Rattle.rm_policy.specs.Entries.{is_present, list_at, name_in, number_named, numbers_of, read_at, refused}
-use Rattle.rm_policy.specs.Groups.{group_checks_after, group_name_checks, group_shape_checks, element_checks, groups_of, groups_named, hospitals_named, prefectures_named, no_groups, steps_of_group, with_group}
-use Rattle.rm_policy.specs.Hospitals.{found_checks, hospital_checks, hospital_checks_after, hospital_shape_checks, hospital_steps_of, steps_in, steps_of_hospital, entry_of as former_of}
+use Rattle.rm_policy.specs.Entries.{is_present, elements_at, name_of_entry, number_named, numbers_of, read_at, policy_refusal}
+use Rattle.rm_policy.specs.Groups.{group_checks_after, group_name_checks, group_shape_checks, group_element_checks, groups_of, groups_named, hospitals_named, prefectures_named, no_groups, steps_of_group, with_group}
+use Rattle.rm_policy.specs.Hospitals.{found_hospital_checks, hospital_entry_checks, hospital_entry_checks_after, hospital_shape_checks, hospital_steps_of, steps_in, steps_of_hospital, entry_of_hospital as former_of}
 use Rattle.rm_policy.specs.Policy.{PolicyData, ReadsPolicy, listed_pairs, pair_numbered, plain, policy_checks, policy_of}
-use Rattle.rm_policy.specs.Prefectures.{fits, hospitals_in, is_missing, order_checks, order_element_checks, order_in as entry_order, prefecture_checks, prefecture_checks_after, prefecture_in, prefecture_name_checks, prefecture_shape_checks, targets_check}
+use Rattle.rm_policy.specs.Prefectures.{fits, hospitals_in, is_missing, order_checks, order_element_checks, order_in as entry_order, prefecture_checks, prefecture_checks_after, prefecture_of_entry, prefecture_name_checks, prefecture_shape_checks, targets_check}
 use Rattle.rm_policy.specs.Steps.{cap_in, flat, run_refusal, runs_in, step_checks}
 use Rattle.rm_policy.specs.Top.{group_entries, hospital_entries, kind_in, prefecture_entries, top_checks}
 use Rattle.rm_policy.specs.Values.{pair, pairs, texts}
@@ -33,14 +33,14 @@ use Rattle.rm_policy.specs.declared.Kind.{Kind}
 use Rattle.rm_policy.specs.declared.keys.Key.TheVariants as key
 use Rattle.rm_policy.proofs.GroupSets.{groups-are-sets}
 use Rattle.rm_roster.specs.Roster.{RosterData, IsRoster}
-use Rattle.rm_sets.specs.Sets.{below, has, IsIn, IsOnce}
+use Rattle.rm_sets.specs.Sets.{below, has, IsIn}
 use Rattle.rm_sets.proofs.Members.{not_in_nil, IsIn-all_below, IsIn-append_cases}
-use Rattle.rm_sets.proofs.Once.{get_or-below, length-below, once_append, once_of_set}
+use Rattle.rm_sets.proofs.Once.{get_or-below, length-below, distinct_append, distinct_of_set, distinct_none, distinct_one}
 use Rattle.rm_sets.proofs.Search.{any_none}
 use Rattle.rm_sets.proofs.Sets.{IsIn-cases, IsSet-all_below, not_both, same_tests}
 use Rattle.rm_steps.proofs.Accepted.{accepted-steps}
 use Rattle.rm_case.specs.Compiled.{entry_of_prefecture, order_of_prefecture}
-use Rattle.rm_case.specs.Fits.{Fits, IsOrderOf}
+use Rattle.rm_case.specs.Suits.{SuitsRoster, IsOrderOf}
 use Rattle.rm_case.proofs.OrderLemmas.{entry_named, names_prefecture}
 
 abbrev Checks : Type 0
@@ -65,8 +65,8 @@ groups_fall : (r : RosterData) (first : ℕ) (ds : List Data) → first_of (chec
 groups_fall r first ds e =
     passed (group_checks_after r first) (λ before. All IsFalling (groups_of r before).steps) (All-nil IsFalling)
     (λ before d all none.
-    let i = first + length (map name_in before) + 1 in
-    let steps = (none-parts (group_shape_checks i d ++ group_name_checks first (map name_in before) i (name_in d) ++ element_checks r (map name_in before) i (hospitals_named d) (prefectures_named d) (groups_named d)) (step_checks i (runs_in d)) none).1 in
+    let i = first + length (map name_of_entry before) + 1 in
+    let steps = (none-parts (group_shape_checks i d ++ group_name_checks first (map name_of_entry before) i (name_of_entry d) ++ group_element_checks r (map name_of_entry before) i (hospitals_named d) (prefectures_named d) (groups_named d)) (step_checks i (runs_in d)) none).1 in
     subst (λ g. All IsFalling g.steps) (sym (fold_push (with_group r) no_groups before d))
     (All-push IsFalling (groups_of r before).steps (steps_of_group d) all (group_fall d (runs_fall i (runs_in d) (none-each (step_checks i (runs_in d)) steps).1.0))))
     ds e
@@ -75,18 +75,18 @@ prefectures_fall : (ds : List Data) → All IsFalling (map (λ e. flat (cap_in e
 prefectures_fall [] = All-nil IsFalling
 prefectures_fall (d ∷ ds) = All-cons IsFalling (flat (cap_in d)) (map (λ e. flat (cap_in e)) ds) (zeros_fall (cap_in d)) (prefectures_fall ds)
 
-found_fall : (r : RosterData) (former : ℕ → Option ℕ) (i : ℕ) (d : Data) (o : Option ℕ) → first_of (found_checks r former i d o) ≡ None → IsFalling (steps_in d)
-found_fall r former i d None e = let none = (none-each (found_checks r former i d None) e).0 in absurd (cc none)
-found_fall r former i d (Some h) e = runs_fall i (runs_in d) (none-each (found_checks r former i d (Some h)) e).1.1.0
+found_fall : (r : RosterData) (former : ℕ → Option ℕ) (i : ℕ) (d : Data) (o : Option ℕ) → first_of (found_hospital_checks r former i d o) ≡ None → IsFalling (steps_in d)
+found_fall r former i d None e = let none = (none-each (found_hospital_checks r former i d None) e).0 in absurd (cc none)
+found_fall r former i d (Some h) e = runs_fall i (runs_in d) (none-each (found_hospital_checks r former i d (Some h)) e).1.1.0
 
-hospital_fall : (r : RosterData) (former : ℕ → Option ℕ) (i : ℕ) (d : Data) → first_of (hospital_checks r former i d) ≡ None → IsFalling (steps_in d)
+hospital_fall : (r : RosterData) (former : ℕ → Option ℕ) (i : ℕ) (d : Data) → first_of (hospital_entry_checks r former i d) ≡ None → IsFalling (steps_in d)
 hospital_fall r former i d e =
-    let o = place_of r.hospitals (name_in d) in
-    found_fall r former i d o (none-parts (hospital_shape_checks i d) (found_checks r former i d o) e).1
+    let o = place_of r.hospitals (name_of_entry d) in
+    found_fall r former i d o (none-parts (hospital_shape_checks i d) (found_hospital_checks r former i d o) e).1
 
-hospitals_fall : (r : RosterData) (first : ℕ) (ds : List Data) → first_of (checks_of (hospital_checks_after r first) ds) ≡ None → All IsFalling (map steps_in ds)
+hospitals_fall : (r : RosterData) (first : ℕ) (ds : List Data) → first_of (checks_of (hospital_entry_checks_after r first) ds) ≡ None → All IsFalling (map steps_in ds)
 hospitals_fall r first ds e =
-    passed (hospital_checks_after r first) (λ before. All IsFalling (map steps_in before)) (All-nil IsFalling)
+    passed (hospital_entry_checks_after r first) (λ before. All IsFalling (map steps_in before)) (All-nil IsFalling)
     (λ before d all none.
     subst (All IsFalling) (sym (map-append steps_in before (d ∷ [])))
     (All-push IsFalling (map steps_in before) (steps_in d) all (hospital_fall r (λ h. option_map (λ k. first + (k + 1)) (former_of r before h)) (first + (length before + 1)) d none)))
@@ -117,32 +117,32 @@ steps_fall r ds h all = elim (cases_lt h (length r.hospitals)) [
 
 module _ (r : RosterData) (kind : Kind) where
   -- the four parts of an entry's checks find nothing
-  name_new : (names : List Text) (d : Data) → first_of (prefecture_checks r kind names d) ≡ None → place_of names (name_in d) ≡ None
+  name_new : (names : List Text) (d : Data) → first_of (prefecture_checks r kind names d) ≡ None → place_of names (name_of_entry d) ≡ None
   name_new names d e =
       let i = length names + 1 in
-      let p = prefecture_in r d in
+      let p = prefecture_of_entry r d in
       let shape = prefecture_shape_checks i d in
-      let name = prefecture_name_checks r.prefectures names i (name_in d) in
+      let name = prefecture_name_checks r.prefectures names i (name_of_entry d) in
       let order = order_checks r i p (read_at texts key.Order d) in
       let targets = targets_check r kind i p (cap_in d) ∷ [] in
       let front = (none-parts (shape ++ name ++ order) targets e).0 in
       let named = (none-parts shape name (none-parts (shape ++ name) order front).0).1 in
-      mapped-none (λ f. refused REPEATED_ENTRY i (f + 1)) (place_of names (name_in d)) (none-each name named).1.0
+      mapped-none (λ f. policy_refusal REPEATED_ENTRY i (f + 1)) (place_of names (name_of_entry d)) (none-each name named).1.0
 
-  order_passes : (names : List Text) (d : Data) → first_of (prefecture_checks r kind names d) ≡ None → first_of (order_checks r (length names + 1) (prefecture_in r d) (read_at texts key.Order d)) ≡ None
+  order_passes : (names : List Text) (d : Data) → first_of (prefecture_checks r kind names d) ≡ None → first_of (order_checks r (length names + 1) (prefecture_of_entry r d) (read_at texts key.Order d)) ≡ None
   order_passes names d e =
       let i = length names + 1 in
-      let p = prefecture_in r d in
+      let p = prefecture_of_entry r d in
       let shape = prefecture_shape_checks i d in
-      let name = prefecture_name_checks r.prefectures names i (name_in d) in
+      let name = prefecture_name_checks r.prefectures names i (name_of_entry d) in
       let order = order_checks r i p (read_at texts key.Order d) in
       let targets = targets_check r kind i p (cap_in d) ∷ [] in
       (none-parts (shape ++ name) order (none-parts (shape ++ name ++ order) targets e).0).1
 
-  entries_apart : (ds : List Data) → first_of (checks_of (prefecture_checks_after r kind) ds) ≡ None → AreDistinct (map name_in ds)
+  entries_apart : (ds : List Data) → first_of (checks_of (prefecture_checks_after r kind) ds) ≡ None → AreDistinct (map name_of_entry ds)
   entries_apart ds e =
-      passed (prefecture_checks_after r kind) (λ before. AreDistinct (map name_in before)) none_distinct
-      (λ before d all none. subst AreDistinct (sym (map-append name_in before (d ∷ []))) (distinct-more (map name_in before) (name_in d) all (name_new (map name_in before) d none)))
+      passed (prefecture_checks_after r kind) (λ before. AreDistinct (map name_of_entry before)) none_distinct
+      (λ before d all none. subst AreDistinct (sym (map-append name_of_entry before (d ∷ []))) (distinct-more (map name_of_entry before) (name_of_entry d) all (name_new (map name_of_entry before) d none)))
       ds e
     where
       none_distinct : AreDistinct []
@@ -152,7 +152,7 @@ module _ (r : RosterData) (kind : Kind) where
 
 -- what the elements of an order name: hospitals of the prefecture, each once
 record AreTurns (r : RosterData) (p : ℕ) (order : List ℕ) : Type 0 where
-  once : IsOnce order
+  once : IsDistinct eqb order
   known : (h : ℕ) → IsIn h order → (h < length r.hospitals) × (get_or r.prefecture_of h 0 ≡ p)
 
 number_below : (names : List Text) (d : Data) (h : ℕ) → number_named names d ≡ Some h → h < length names
@@ -162,18 +162,15 @@ number_below names d h e = by (as_str d) e
     by None e = absurd (cc e)
     by (Some name) e = (position-Some (bytes_eq name) names h [] e).0
 
-single_once : (h : ℕ) → IsOnce (h ∷ [])
-single_once h = (refl, tt)
-
 no_turns : (r : RosterData) (p : ℕ) → AreTurns r p []
-no_turns r p = record { once = tt; known = λ h i. absurd (not_in_nil h i) }
+no_turns r p = record { once = distinct_none; known = λ h i. absurd (not_in_nil h i) }
 
 turn_more : (r : RosterData) (p : ℕ) (order : List ℕ) (h : ℕ) → AreTurns r p order → h < length r.hospitals → fits r p order (Some h) ≡ true → AreTurns r p (order ++ h ∷ [])
 turn_more r p order h turns lt fit =
     let parts = and_parts (get_or r.prefecture_of h 0 == p) (not (has h order)) fit in
     let own = eqb-true (get_or r.prefecture_of h 0) p parts.0 in
     record {
-      once = once_append order (h ∷ []) turns.once (single_once h) (λ x i j. not_both (has h order) (subst (λ (z : ℕ). IsIn z order) (only h x j) i) (not_true (has h order) parts.1));
+      once = distinct_append order (h ∷ []) turns.once (distinct_one h) (λ x i j. not_both (has h order) (subst (λ (z : ℕ). IsIn z order) (only h x j) i) (not_true (has h order) parts.1));
       known = λ x i. ⊎_elim (λ (old : IsIn x order). turns.known x old) (λ (new : IsIn x (h ∷ [])). subst (λ (z : ℕ). (z < length r.hospitals) × (get_or r.prefecture_of z 0 ≡ p)) (sym (only h x new)) (lt, own)) (IsIn-append_cases order (h ∷ []) x i);
     }
   where
@@ -199,7 +196,7 @@ elements_turns r i p ds e =
     passed (order_element_checks r i p) (λ before. AreTurns r p (numbers_of r.hospitals before)) (no_turns r p)
     (λ before d turns none.
     let fit = fits r p (numbers_of r.hospitals before) (number_named r.hospitals d) in
-    let off = check-none (not fit) (refused WRONG_ORDER i (length before + 1)) (none-each (order_element_checks r i p before d) none).0 in
+    let off = check-none (not fit) (policy_refusal WRONG_ORDER i (length before + 1)) (none-each (order_element_checks r i p before d) none).0 in
     element_turns r p before d (number_named r.hospitals d) turns refl (not_false fit off))
     ds e
   where
@@ -221,25 +218,25 @@ whole_order r p order turns none = record {
     not_false false e = absurd (cc e)
 
 own_order : (r : RosterData) (q : ℕ) → IsOrderOf r q (hospitals_in r q)
-own_order r q = record { once = once_of_set (hospitals_in r q) (IsSet-all_below (length r.hospitals) (λ h. get_or r.prefecture_of h 0 == q)); hospitals = λ h. refl }
+own_order r q = record { once = distinct_of_set (hospitals_in r q) (IsSet-all_below (length r.hospitals) (λ h. get_or r.prefecture_of h 0 == q)); hospitals = λ h. refl }
 
 read_order : (r : RosterData) (i p : ℕ) (o : Option (List Data)) → first_of (order_checks r i p o) ≡ None → IfSome (option_map (numbers_of r.hospitals) o) (IsOrderOf r p)
 read_order r i p None e = tt
 read_order r i p (Some ds) e =
-    let missing = check (is_missing (hospitals_in r p) (numbers_of r.hospitals ds)) (refused WRONG_ORDER i (length ds + 1)) in
+    let missing = check (is_missing (hospitals_in r p) (numbers_of r.hospitals ds)) (policy_refusal WRONG_ORDER i (length ds + 1)) in
     let parts = none-parts (checks_of (order_element_checks r i p) ds) (missing ∷ []) e in
     whole_order r p (numbers_of r.hospitals ds) (elements_turns r i p ds parts.0)
-    (check-none (is_missing (hospitals_in r p) (numbers_of r.hospitals ds)) (refused WRONG_ORDER i (length ds + 1)) (none-each (missing ∷ []) parts.1).0)
+    (check-none (is_missing (hospitals_in r p) (numbers_of r.hospitals ds)) (policy_refusal WRONG_ORDER i (length ds + 1)) (none-each (missing ∷ []) parts.1).0)
 
 abbrev HasOrder : RosterData → Data → Type 0
-HasOrder r d = IfSome (entry_order r d) (IsOrderOf r (prefecture_in r d))
+HasOrder r d = IfSome (entry_order r d) (IsOrderOf r (prefecture_of_entry r d))
 
 entries_ordered : (r : RosterData) (kind : Kind) (ds : List Data) → first_of (checks_of (prefecture_checks_after r kind) ds) ≡ None → All (HasOrder r) ds
 entries_ordered r kind ds e =
     passed (prefecture_checks_after r kind) (All (HasOrder r)) (All-nil (HasOrder r))
     (λ before d all none.
     All-push (HasOrder r) before d all
-    (read_order r (length (map name_in before) + 1) (prefecture_in r d) (read_at texts key.Order d) (order_passes r kind (map name_in before) d none)))
+    (read_order r (length (map name_of_entry before) + 1) (prefecture_of_entry r d) (read_at texts key.Order d) (order_passes r kind (map name_of_entry before) d none)))
     ds e
 
 -- ---- listed pairs
@@ -278,7 +275,7 @@ module _ (r : RosterData) (d : Data) (roster : IsRoster r) (quiet : first_of (po
   of_groups = checks_of (group_checks_after r (length ps)) gs
 
   abbrev of_hospitals : Checks
-  of_hospitals = checks_of (hospital_checks_after r (length ps + length gs)) hs
+  of_hospitals = checks_of (hospital_entry_checks_after r (length ps + length gs)) hs
 
   entries_quiet : (first_of of_prefectures ≡ None) × (first_of of_groups ≡ None) × (first_of of_hospitals ≡ None)
   entries_quiet =
@@ -290,8 +287,8 @@ module _ (r : RosterData) (d : Data) (roster : IsRoster r) (quiet : first_of (po
   abbrev policy : PolicyData
   policy = policy_of r d
 
-  names_are : take (length policy.orders) policy.groups.names ≡ map name_in ps
-  names_are = take_at (map name_in ps) (groups_of r gs).names (length policy.orders) (length-map ps name_in ∙ sym (length-map ps (entry_order r)))
+  names_are : take (length policy.orders) policy.groups.names ≡ map name_of_entry ps
+  names_are = take_at (map name_of_entry ps) (groups_of r gs).names (length policy.orders) (length-map ps name_of_entry ∙ sym (length-map ps (entry_order r)))
 
   ordered : (q : ℕ) → q < length r.prefectures → IsOrderOf r q (order_of_prefecture r policy q)
   ordered q lt = by (entry_of_prefecture r policy q) refl
@@ -308,30 +305,30 @@ module _ (r : RosterData) (d : Data) (roster : IsRoster r) (quiet : first_of (po
           let lg : g < length ps = omega (arith, named.0, length-map ps (entry_order r)) in
           let entry = get_or ps g d in
           let at : get_or policy.orders g None ≡ entry_order r entry = get_or-map (entry_order r) ps g d None lg in
-          let name : get_or policy.groups.names g [] ≡ name_in entry =
-          get_or_append_left (map name_in ps) (groups_of r gs).names [] g (omega (arith, lg, length-map ps name_in)) ∙ get_or-map name_in ps g d [] lg in
-          let own : prefecture_in r entry ≡ q = ap (λ (o : Option ℕ). unwrap_or o 0) (ap (λ (n : Text). place_of r.prefectures n) (sym name) ∙ placed) in
-          given (prefecture_in r entry) (get_or policy.orders g None) own (subst (λ o. IfSome o (IsOrderOf r (prefecture_in r entry))) (sym at) (All-get_or (HasOrder r) ps g d lg (entries_ordered r (kind_in d) ps entries_quiet.0)))
+          let name : get_or policy.groups.names g [] ≡ name_of_entry entry =
+          get_or_append_left (map name_of_entry ps) (groups_of r gs).names [] g (omega (arith, lg, length-map ps name_of_entry)) ∙ get_or-map name_of_entry ps g d [] lg in
+          let own : prefecture_of_entry r entry ≡ q = ap (λ (o : Option ℕ). unwrap_or o 0) (ap (λ (n : Text). place_of r.prefectures n) (sym name) ∙ placed) in
+          given (prefecture_of_entry r entry) (get_or policy.orders g None) own (subst (λ o. IfSome o (IsOrderOf r (prefecture_of_entry r entry))) (sym at) (All-get_or (HasOrder r) ps g d lg (entries_ordered r (kind_in d) ps entries_quiet.0)))
 
-  fits_policy : Fits r policy
+  fits_policy : SuitsRoster r policy
   fits_policy = record {
     groups = groups-are-sets r d;
     group_steps = All-append IsFalling (map (λ e. flat (cap_in e)) ps) (groups_of r gs).steps (prefectures_fall ps) (groups_fall r (length ps) gs entries_quiet.1);
     hospital_steps = λ h. steps_fall r hs h (hospitals_fall r (length ps + length gs) hs entries_quiet.2);
     entries = subst AreDistinct (sym names_are) (entries_apart r (kind_in d) ps entries_quiet.0);
     orders = ordered;
-    listed = pairs_known r (list_at pairs key.Listed d);
+    listed = pairs_known r (elements_at pairs key.Listed d);
   }
 
 -- ---- what a policy that was read for a roster is, and what the plain policy is
 
-pub fits_read : (r : RosterData) (document : Option Data) (p : PolicyData) → IsRoster r → ReadsPolicy r document (Ok p) → Fits r p
+pub fits_read : (r : RosterData) (document : Option Data) (p : PolicyData) → IsRoster r → ReadsPolicy r document (Ok p) → SuitsRoster r p
 fits_read r document p roster read =
     let d = read.1 in
     let quiet : first_of (policy_checks r (Some d)) ≡ None = subst (λ (o : Option Data). first_of (policy_checks r o) ≡ None) read.2 read.0 in
-    subst (Fits r) (sym read.3) (fits_policy r d roster quiet)
+    subst (SuitsRoster r) (sym read.3) (fits_policy r d roster quiet)
 
-pub fits_plain : (r : RosterData) → Fits r plain
+pub fits_plain : (r : RosterData) → SuitsRoster r plain
 fits_plain r = record {
   groups = λ k e lt. absurd (omega arith);
   group_steps = All-nil IsFalling;
