@@ -38,6 +38,11 @@ const ROWS: [Row; 3] = [
     },
 ];
 
+// Whether a name has this number.
+fn is_at(names: &Names, name: &str, n: u32) -> bool {
+    names.find(name) == Some(n) && n < names.len() && names.name(n) == name
+}
+
 // Whether both names are added, found and read back, and each is there when it is added again.
 fn keeps(alloc: Global, row: &Row) -> Result<bool, NoMemory> {
     let mut names = Names::with_capacity(alloc, 2)?;
@@ -51,8 +56,7 @@ fn keeps(alloc: Global, row: &Row) -> Result<bool, NoMemory> {
     if other_again != Added::There(0) || again != Added::There(1) || names.len() != 2 {
         return Ok(false);
     }
-    let found = names.find(row.other) == Some(0) && names.find(row.name) == Some(1);
-    Ok(found && names.name(0) == row.other && names.name(1) == row.name)
+    Ok(is_at(&names, row.other, 0) && is_at(&names, row.name, 1))
 }
 
 #[test]
