@@ -1,11 +1,11 @@
 -- Lists that are built item by item: none, one begun, one item more.
-use Rattle.std.proofs.Common.{◌≡◌, ◌∙◌, sym, ap, refl, ℕ, zero, suc, ◌+◌, ◌-◌, ◌<◌, ◌≤◌, ◌^◌, List, [], ◌∷◌, ◌++◌, length, take, drop, set, get_or, replicate, false, nat_lt, Option, Some, None, IsSome, inl, inr, arith, length-append, length-drop, length-set, All}
+use Rattle.std.proofs.Common.{◌≡◌, ◌≢◌, ◌∙◌, sym, ap, refl, ℕ, zero, suc, ◌+◌, ◌-◌, ◌<◌, ◌≤◌, ◌^◌, List, [], ◌∷◌, ◌++◌, length, take, drop, set, get_or, replicate, false, Option, Some, None, IsSome, inl, inr, arith, length-append, length-drop, length-set, All}
 use mathlib.Core.Bool.{false≢true}
 use Rattle.std.specs.Bool.{◌==◌}
 use Rattle.std.specs.List.{IsDistinct, list_any, AllByRecursion}
 use Rattle.std.proofs.lemmas.Bool.{cases_lt, cases_eq}
 use Rattle.std.proofs.lemmas.Bool.Decides.{nat_tests}
-use Rattle.std.proofs.lemmas.List.{take_more, length-take-le, length-map, get_or-map, take_all, drop_all, drop-append-le, map-set, set-get_or, get_or-replicate, get_or_past, get_or_read, get_or-set_same, get_or-set_other, length-replicate}
+use Rattle.std.proofs.lemmas.List.{take_more, length-take-le, length-map, get_or-map, take_all, drop-append-le, map-set, set-get_or, get_or-replicate, get_or_past, get_or_read, get_or-set_same, get_or-set_other, length-replicate}
 use Rattle.std.proofs.lemmas.List.Elements.{All-take, All-drop, All-map, All-nil, All-replicate, All-set, All-weaker, All-push}
 use Rattle.std.proofs.lemmas.List.Folds.{list_any-append, sum_by-replicate}
 use Rattle.std.proofs.lemmas.List.Sums.{sum_by-set}
@@ -17,9 +17,6 @@ use Rattle.rm_ranks.proofs.Searches.{both-false}
 
 abbrev pub no_span : Span
 no_span = record { start = 0; end = 0 }
-
-part-nil : (s : Span) → part {X = ℕ} [] s ≡ []
-part-nil s = rw (drop_all {X = ℕ} s.start [] (omega arith)) (take_all {A = ℕ} (s.end - s.start) [] (omega arith))
 
 get_or-same : (n i : ℕ) {X : Type 0} (x : X) → get_or (replicate n x) i x ≡ x
 get_or-same n i x = elim (cases_lt i n) [
@@ -37,14 +34,12 @@ none-built n m limit few = record {
   few = omega (arith, length-replicate n no_span);
   marked = length-replicate {A = Option ℕ} n None ∙ sym (length-replicate n no_span);
   each = All-replicate (IsBuilt []) n no_span (record { forward = omega arith; within = omega arith; distinct = tt });
-  unbegun = λ i none. part-nil (get_or (replicate n no_span) i no_span);
+  unbegun = λ i none. rw (no-lists n) (get_or-same n i []);
   ends = tt;
   total = rw (no-lists n, sum_by-replicate {X = List ℕ} length n []) (omega arith);
   room = omega arith;
   below = All-nil (λ x. x < length (replicate m 0));
-  places = λ x s lt.
-      let none : list_any (λ y. y == x) (drop s []) ≡ false = rw (drop_all {X = ℕ} s [] (omega arith)) refl in
-      rw (none, get_or-same m x {X = ℕ} 0) (grind (arith, nat_tests));
+  noted = λ i x may. rw (no-lists n, get_or-same n i {X = List ℕ} [], get_or-same m x {X = ℕ} 0) (grind (arith, nat_tests));
 }
 
 -- ---- a list is begun
@@ -61,8 +56,7 @@ pub lists-begun :
 lists-begun items spans marks last at limit built i n lt none =
     let zero-is : n - n ≡ 0 = omega arith in
     let e : part items (record { start = n; end = n }) ≡ [] = ap (λ (k : ℕ). take k (drop n items)) zero-is in
-    let was : get_or (lists_of items spans) i [] ≡ [] = list-at items spans i no_span lt ∙ built.unbegun i none in
-    map-set (part items) spans i (record { start = n; end = n }) ∙ ap (λ (l : List ℕ). set (lists_of items spans) i l) (e ∙ sym was) ∙ set-get_or (lists_of items spans) i []
+    map-set (part items) spans i (record { start = n; end = n }) ∙ ap (λ (l : List ℕ). set (lists_of items spans) i l) (e ∙ sym (built.unbegun i none)) ∙ set-get_or (lists_of items spans) i []
 
 pub list-built :
     (items : List ℕ) (spans : List Span) (marks : List (Option ℕ)) (last : List ℕ) (at : Option ℕ) (limit : ℕ) → AreBuilt items spans marks last at limit →
@@ -74,19 +68,24 @@ list-built items spans marks last at limit built i n mark lt none n-is =
     let zero-is : n - n ≡ 0 = omega arith in
     let empty : part items span ≡ [] = ap (λ (k : ℕ). take k (drop n items)) zero-is in
     let marked : i < length marks = omega (arith, built.marked) in
+    let lists = lists-begun items spans marks last at limit built i n lt none in
+    let before : (k : ℕ) → get_or (set marks i (Some mark)) k None ≡ None → get_or marks k None ≡ None = λ k absent. elim (cases_eq k i) [
+      | inl same ↦ absurd (some-is (Some mark) refl (sym (get_or-set_same marks i (Some mark) None marked) ∙ rw same at absent))
+      | inr other ↦ rw (get_or-set_other marks i k (Some mark) None other) at absent
+    ] in
     record {
       few = omega (arith, built.few, length-set spans i span);
       marked = omega (arith, built.marked, length-set spans i span, length-set marks i (Some mark));
       each = All-set (IsBuilt items) spans i span (record { forward = omega arith; within = omega (arith, n-is); distinct = rw empty tt }) built.each;
-      unbegun = λ k absent. elim (cases_eq k i) [
-        | inl same ↦ absurd (some-is (Some mark) refl (sym (get_or-set_same marks i (Some mark) None marked) ∙ rw same at absent))
-        | inr other ↦ rw (get_or-set_other spans i k span no_span other) (built.unbegun k (rw (get_or-set_other marks i k (Some mark) None other) at absent))
-      ];
+      unbegun = λ k absent. rw lists (built.unbegun k (before k absent));
       ends = (omega (arith, length-set spans i span), λ t. ap (λ (q : Span). q.end) (get_or-set_same spans i span t lt) ∙ n-is, rw (get_or-set_same marks i (Some mark) None marked) refl);
-      total = rw (lists-begun items spans marks last at limit built i n lt none) built.total;
+      total = rw lists built.total;
       room = built.room;
       below = built.below;
-      places = built.places;
+      noted = λ k x may. rw lists (built.noted k x (elim may [
+        | inl this ↦ let same : i ≡ k = cc in inr (rw same at none)
+        | inr absent ↦ inr (before k absent)
+      ]));
     }
 
 -- ---- one item more
@@ -102,24 +101,18 @@ distinct-push (x ∷ xs) y distinct none =
     let b = both-false (x == y) (list_any (λ z. z == y) xs) none in
     (rec-push (λ z. (x == z) ≡ false) xs y distinct.0 b.0, distinct-push xs y distinct.1 b.1)
 
--- an item stands after place s exactly where s is below one more than its last place
-places-push : (items last : List ℕ) (item n : ℕ) → n ≡ length items + 1 → item < length last →
-    ((x s : ℕ) → x < length last → list_any (λ y. y == x) (drop s items) ≡ nat_lt s (get_or last x 0)) →
-    (x s : ℕ) → x < length last → list_any (λ y. y == x) (drop s (items ++ item ∷ [])) ≡ nat_lt s (get_or (set last item n) x 0)
-places-push items last item n n-is within places x s lt = elim (cases_lt (length items) s) [
-  | inl past ↦
-      let now = drop_all s (items ++ item ∷ []) (omega (arith, length-append items (item ∷ []))) in
-      let was = drop_all s items (omega arith) in
-      let before : false ≡ nat_lt s (get_or last x 0) = rw was at (places x s lt) in
-      rw now (elim (cases_eq x item) [
-        | inl same ↦ rw (same, get_or-set_same last item n 0 within) (grind (arith, nat_tests))
-        | inr other ↦ rw (get_or-set_other last item x n 0 other) before
-      ])
-  | inr within_items ↦
-      rw (drop-append-le s items (item ∷ []) within_items, list_any-append (λ y. y == x) (drop s items) (item ∷ []), places x s lt) (elim (cases_eq x item) [
-        | inl same ↦ rw (same, get_or-set_same last item n 0 within) (grind (arith, nat_tests))
-        | inr other ↦ rw (get_or-set_other last item x n 0 other) (grind (arith, nat_tests))
-      ])
+-- a list has an item more, and so it is noted
+noted-push : (xs last : List ℕ) (item n x : ℕ) → item < length last → list_any (λ y. y == x) xs ≡ (get_or last x 0 == n) → list_any (λ y. y == x) (xs ++ item ∷ []) ≡ (get_or (set last item n) x 0 == n)
+noted-push xs last item n x within noted = rw (list_any-append (λ y. y == x) xs (item ∷ []), noted) (elim (cases_eq x item) [
+  | inl same ↦ rw (same, get_or-set_same last item n 0 within) (grind (arith, nat_tests))
+  | inr other ↦ rw (get_or-set_other last item x n 0 other) (grind (arith, nat_tests))
+])
+
+-- another list, which is empty, is noted as before
+noted-other : (last : List ℕ) (item n m x : ℕ) → item < length last → n ≢ m → false ≡ (get_or last x 0 == m) → false ≡ (get_or (set last item n) x 0 == m)
+noted-other last item n m x within apart noted = elim (cases_eq x item) [
+  | inl same ↦ rw (same, get_or-set_same last item n 0 within) (grind (arith, nat_tests))
+  | inr other ↦ rw (get_or-set_other last item x n 0 other) noted
 ]
 
 module _ (items : List ℕ) (spans : List Span) (marks : List (Option ℕ)) (last : List ℕ) (at limit : ℕ) (built : AreBuilt items spans marks last (Some at) limit) (s : Span) (here : s ≡ get_or spans at s) where
@@ -132,11 +125,8 @@ module _ (items : List ℕ) (spans : List Span) (marks : List (Option ℕ)) (las
   pub last-is : get_or (lists_of items spans) at [] ≡ part items s
   last-is = list-at items spans at s built.ends.0 ∙ ap (λ (t : Span). part items t) (sym here)
 
-  pub repeated-is : (item : ℕ) → item < length last → list_any (λ x. x == item) (get_or (lists_of items spans) at []) ≡ nat_lt s.start (get_or last item 0)
-  repeated-is item lt = rw (last-is, last-part) (built.places item s.start lt)
-
-  pub not-repeated : (item m : ℕ) → item < length last → m ≡ get_or last item m → m ≤ s.start → list_any (λ x. x == item) (get_or (lists_of items spans) at []) ≡ false
-  not-repeated item m lt is le = repeated-is item lt ∙ (let e = get_or_read last item m lt is 0 in grind (arith, nat_tests))
+  pub not-repeated : (item m : ℕ) → item < length last → m ≡ get_or last item m → m ≢ at + 1 → list_any (λ x. x == item) (get_or (lists_of items spans) at []) ≡ false
+  not-repeated item m lt is apart = built.noted at item (inl refl) ∙ (let e = get_or_read last item m lt is 0 in grind (arith, nat_tests))
 
   this-built : IsBuilt items s
   this-built = rw (← here) at (built.each at s built.ends.0)
@@ -150,12 +140,6 @@ module _ (items : List ℕ) (spans : List Span) (marks : List (Option ℕ)) (las
   each-within : All (IsWithin (length items)) spans
   each-within = All-weaker (IsBuilt items) (IsWithin (length items)) (λ t b. record { forward = b.forward; within = b.within }) spans built.each
 
-  within-at : (i : ℕ) → IsWithin (length items) (get_or spans i no_span)
-  within-at i = elim (cases_lt i (length spans)) [
-    | inl lt ↦ each-within i no_span lt
-    | inr past ↦ rw (get_or_past spans i no_span past) (record { forward = omega arith; within = omega arith })
-  ]
-
   pub lists-item : (item n : ℕ) → n ≡ length items + 1 →
       lists_of (items ++ item ∷ []) (set spans at (record { start = s.start; end = n })) ≡ set (lists_of items spans) at (get_or (lists_of items spans) at [] ++ item ∷ [])
   lists-item item n n-is =
@@ -163,10 +147,14 @@ module _ (items : List ℕ) (spans : List Span) (marks : List (Option ℕ)) (las
       ∙ rw (lists-grown items (item ∷ []) spans each-within, grown-part item n n-is, ← last-is) refl
 
   pub item-built : (item n : ℕ) → n ≡ length items + 1 → item < length last → length items < limit → list_any (λ x. x == item) (get_or (lists_of items spans) at []) ≡ false →
-      AreBuilt (items ++ item ∷ []) (set spans at (record { start = s.start; end = n })) marks (set last item n) (Some at) limit
+      AreBuilt (items ++ item ∷ []) (set spans at (record { start = s.start; end = n })) marks (set last item (at + 1)) (Some at) limit
   item-built item n n-is lt room new =
       let span : Span = record { start = s.start; end = n } in
       let longer = length-append items (item ∷ []) in
+      let old = get_or (lists_of items spans) at [] in
+      let here-within : at < length (lists_of items spans) = omega (arith, built.ends.0, length-map spans (part items)) in
+      let grown = lists-item item n n-is in
+      let other : (i : ℕ) → get_or marks i None ≡ None → i ≢ at = λ i none same. some-is (get_or marks at None) built.ends.2 (rw same at none) in
       let all = λ (t : Span) (b : IsBuilt items t). let w : IsWithin (length items) t = record { forward = b.forward; within = b.within } in
       let r : IsBuilt (items ++ item ∷ []) t = record { forward = b.forward; within = omega (arith, b.within, longer); distinct = rw (part-grown items (item ∷ []) t w) b.distinct } in r in
       let this : IsBuilt (items ++ item ∷ []) span = record {
@@ -178,18 +166,20 @@ module _ (items : List ℕ) (spans : List Span) (marks : List (Option ℕ)) (las
         few = omega (arith, built.few, length-set spans at span);
         marked = omega (arith, built.marked, length-set spans at span);
         each = All-set (IsBuilt (items ++ item ∷ [])) spans at span this (All-weaker (IsBuilt items) (IsBuilt (items ++ item ∷ [])) all spans built.each);
-        unbegun = λ i none. elim (cases_eq i at) [
-          | inl same ↦ absurd (some-is (get_or marks at None) built.ends.2 (rw same at none))
-          | inr other ↦ rw (get_or-set_other spans at i span no_span other, part-grown items (item ∷ []) (get_or spans i no_span) (within-at i)) (built.unbegun i none)
-        ];
+        unbegun = λ i none. rw grown (get_or-set_other (lists_of items spans) at i (old ++ item ∷ []) [] (other i none) ∙ built.unbegun i none);
         ends = (omega (arith, built.ends.0, length-set spans at span), λ t. let long : n ≡ length (items ++ item ∷ []) = omega (arith, longer) in ap (λ (q : Span). q.end) (get_or-set_same spans at span t built.ends.0) ∙ long, built.ends.2);
-        total =
-            let old = get_or (lists_of items spans) at [] in
-            let within : at < length (lists_of items spans) = omega (arith, built.ends.0, length-map spans (part items)) in
-            rw (lists-item item n n-is) (omega (arith, sum_by-set length (lists_of items spans) at (old ++ item ∷ []) [] within, length-append old (item ∷ []), longer, built.total));
+        total = rw grown (omega (arith, sum_by-set length (lists_of items spans) at (old ++ item ∷ []) [] here-within, length-append old (item ∷ []), longer, built.total));
         room = omega (arith, longer, room);
-        below = rw (length-set last item n) (All-push (λ x. x < length last) items item built.below lt);
-        places = λ x p within. let lt-x : x < length last = rw (length-set last item n) at within in places-push items last item n n-is lt built.places x p lt-x;
+        below = rw (length-set last item (at + 1)) (All-push (λ x. x < length last) items item built.below lt);
+        noted = λ i x may. rw grown (elim may [
+          | inl this ↦
+              let same : at ≡ i = cc in
+              rw (← same, get_or-set_same (lists_of items spans) at (old ++ item ∷ []) [] here-within) (noted-push old last item (at + 1) x lt (built.noted at x (inl refl)))
+          | inr none ↦
+              let empty = built.unbegun i none in
+              rw (get_or-set_other (lists_of items spans) at i (old ++ item ∷ []) [] (other i none), empty)
+              (noted-other last item (at + 1) (i + 1) x lt (omega (arith, other i none)) (rw empty at (built.noted i x (inr none))))
+        ]);
       }
 
 -- ---- finished

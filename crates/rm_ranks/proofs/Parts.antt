@@ -1,12 +1,13 @@
 -- Lists in one buffer: what is added at its end leaves them, and one list more.
 use Rattle.std.proofs.Common.{◌≡◌, sym, refl, ℕ, ◌+◌, ◌-◌, ◌<◌, ◌≤◌, ◌^◌, List, [], ◌∷◌, ◌++◌, length, drop, arith, length-append, length-drop, All}
 use Rattle.std.specs.Bool.{◌==◌}
-use Rattle.std.specs.List.{IsDistinct}
+use Rattle.std.specs.List.{IsDistinct, range_with_len}
 use Rattle.std.proofs.lemmas.List.{take_all, drop_at, take-append-le, drop-append-le, map-append}
 use Rattle.std.proofs.lemmas.List.Elements.{All-head, All-tail, All-push, All-weaker, All-map}
+use Rattle.std.proofs.lemmas.List.FromFn.{length-range_with_len}
 use Rattle.std.proofs.lemmas.List.Sorted.{length_permutation}
 use Rattle.rm_ranks.specs.declared.packed.Span.{Span}
-use Rattle.rm_ranks.specs.Packed.{part, lists_of, placed_from, AddsIndex, IsPacked, ArePacked}
+use Rattle.rm_ranks.specs.Packed.{part, lists_of, AddsIndex, IsPacked, ArePacked}
 
 -- a span that stands within a buffer of some length
 pub record IsWithin (n : ℕ) (s : Span) : Type 0 where
@@ -34,19 +35,15 @@ pub lists-push :
 lists-push items list spans s each from to =
     rw (map-append (part (items ++ list)) spans (s ∷ []), lists-grown items list spans each, part-last items list s from to) refl
 
-pub spans-within : (items : List ℕ) (places : List (ℕ × ℕ)) (spans : List Span) → ArePacked items places spans → All (IsWithin (length items)) spans
+pub spans-within : (items : List ℕ) (places : List ℕ) (spans : List Span) → ArePacked items places spans → All (IsWithin (length items)) spans
 spans-within items places spans packed =
     All-weaker (IsPacked items places) (IsWithin (length items)) (λ s p. record { forward = p.forward; within = p.within }) spans packed.each
 
-length-placed : (s : ℕ) (xs : List ℕ) → length (placed_from s xs) ≡ length xs
-length-placed s [] = refl
-length-placed s (x ∷ xs) = omega (arith, length-placed (s + 1) xs)
-
 pub packed-push :
-    (items list : List ℕ) (places places' : List (ℕ × ℕ)) (spans : List Span) (s : Span) → ArePacked items places spans → IsDistinct ◌==◌ list → length spans + 1 < 2 ^ 32 →
+    (items list : List ℕ) (places places' : List ℕ) (spans : List Span) (s : Span) → ArePacked items places spans → IsDistinct ◌==◌ list → length spans + 1 < 2 ^ 32 →
     AddsIndex list places places' → s.start ≡ length items → s.end ≡ length items + length list → ArePacked (items ++ list) places' (spans ++ s ∷ [])
 packed-push items list places places' spans s packed distinct few (index, added, is_index) from to =
-    let long : length index ≡ length list = omega (arith, length_permutation (placed_from 0 list) index is_index.same, length-placed 0 list) in
+    let long : length index ≡ length list = omega (arith, length_permutation (range_with_len 0 (length list)) index is_index.same, length-range_with_len 0 (length list)) in
     let here : part (items ++ list) s ≡ list = part-last items list s from to in
     let there : part (places ++ index) s ≡ index = part-last places index s (omega (arith, packed.as_long)) (omega (arith, packed.as_long)) in
     rw added (record {
@@ -71,6 +68,6 @@ packed-push items list places places' spans s packed distinct few (index, added,
           });
     })
 
-pub all-distinct : (items : List ℕ) (places : List (ℕ × ℕ)) (spans : List Span) → ArePacked items places spans → All (IsDistinct ◌==◌) (lists_of items spans)
+pub all-distinct : (items : List ℕ) (places : List ℕ) (spans : List Span) → ArePacked items places spans → All (IsDistinct ◌==◌) (lists_of items spans)
 all-distinct items places spans packed =
     All-map (IsDistinct ◌==◌) (part items) spans (All-weaker (IsPacked items places) (λ s. IsDistinct ◌==◌ (part items s)) (λ s p. p.distinct) spans packed.each)

@@ -1,5 +1,5 @@
 -- What building lists answers.
-use Rattle.std.specs.Prelude.{◌≡◌, ℕ, ◌≤◌, ◌<◌, ◌^◌, ◌==◌, nat_lt, true, false, List, [], ◌∷◌, length, drop, get_or, Option, Some, None, IsSome, Result, Ok, Err, All}
+use Rattle.std.specs.Prelude.{◌≡◌, ℕ, ◌+◌, ◌≤◌, ◌<◌, ◌^◌, ◌==◌, true, false, List, [], ◌∷◌, length, get_or, Option, Some, None, IsSome, Result, Ok, Err, ◌⊎◌, All}
 use Rattle.std.specs.List.{IsDistinct, list_any, sum_by}
 use Rattle.rm_ranks.specs.Built.{ListsTold, last_list, begun, with_items}
 use Rattle.rm_ranks.specs.Packed.{part, lists_of}
@@ -34,14 +34,18 @@ abbrev pub IsLast : List ℕ → List Span → List (Option ℕ) → Option ℕ 
 IsLast items spans marks None = Unit {0}
 IsLast items spans marks (Some i) = (i < length spans) × ((s : Span) → (get_or spans i s).end ≡ length items) × IsSome (get_or marks i None)
 
--- what the builder keeps: of each item it has one more than its last place in the buffer, and 0 where it isn't there
+-- a list may get items: it is the one begun last, or isn't begun
+abbrev pub IsOpen : List (Option ℕ) → Option ℕ → ℕ → Type 0
+IsOpen marks at i = (at ≡ Some i) ⊎ (get_or marks i None ≡ None)
+
+-- what the builder keeps: a list that may get items has exactly those of which `last` says one more than the list's number
 pub record AreBuilt (items : List ℕ) (spans : List Span) (marks : List (Option ℕ)) (last : List ℕ) (at : Option ℕ) (limit : ℕ) : Type 0 where
   pub few : length spans < 2 ^ 32
   pub marked : length marks ≡ length spans
   pub each : All (IsBuilt items) spans
-  pub unbegun : (i : ℕ) → get_or marks i None ≡ None → part items (get_or spans i (record { start = 0; end = 0 })) ≡ []
+  pub unbegun : (i : ℕ) → get_or marks i None ≡ None → get_or (lists_of items spans) i [] ≡ []
   pub ends : IsLast items spans marks at
   pub total : sum_by length (lists_of items spans) ≡ length items
   pub room : length items ≤ limit
   pub below : All (λ x. x < length last) items
-  pub places : (x s : ℕ) → x < length last → list_any (λ y. y == x) (drop s items) ≡ nat_lt s (get_or last x 0)
+  pub noted : (i x : ℕ) → IsOpen marks at i → list_any (λ y. y == x) (get_or (lists_of items spans) i []) ≡ (get_or last x 0 == i + 1)

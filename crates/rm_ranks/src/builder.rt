@@ -30,7 +30,8 @@ pub struct ListsBuilder {
     items: Vec<u32>,
     spans: Vec<Span>,
     marks: Vec<Option<u64>>,
-    last: Vec<usize>,
+    // Of each item one more than the number of the list that it was pushed to last; 0 where it is in none.
+    last: Vec<u32>,
     at: Option<u32>,
     limit: u64,
 }
@@ -90,8 +91,7 @@ impl ListsBuilder {
         let Some(at) = self.at else {
             unreachable!();
         };
-        let list = at as usize;
-        if self.last[item as usize] > self.spans[list].start {
+        if self.last[item as usize] == at + 1 {
             return Err(ListFault::Repeated);
         }
         if self.items.len() as u64 >= self.limit {
@@ -100,9 +100,10 @@ impl ListsBuilder {
         if self.items.push(item).is_err() {
             return Err(ListFault::NoMemory);
         }
+        let list = at as usize;
         let end = self.items.len();
         self.spans[list].end = end;
-        self.last[item as usize] = end;
+        self.last[item as usize] = at + 1;
         Ok(())
     }
 

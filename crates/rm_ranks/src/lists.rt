@@ -4,7 +4,7 @@ ghost use Rattle.std.specs.Prelude.{◌≡◌, ◌<◌, ◌==◌, ℕ, List, [],
 ghost use Rattle.std.specs.List.{IsDistinct, position};
 ghost use Rattle.rm_ranks.specs.Packed.{IsIndexOf};
 
-use crate::packed::Packed;
+use crate::packed::{Packed, item_at};
 use std::alloc::{AllocError, Global};
 use std::marker::Model;
 
@@ -63,7 +63,11 @@ impl Lists {
         ensures { result ≡ position (λ x. x == j) (get_or self.now i []) }
     {
         let span = self.packed.spans[i as usize];
-        find_place(&self.packed.places[span.start..span.end], j)
+        find_place(
+            &self.packed.items[span.start..span.end],
+            &self.packed.places[span.start..span.end],
+            j,
+        )
     }
 
     /// The number of lists.
@@ -101,12 +105,14 @@ impl Lists {
     }
 }
 
-// The place of an item, by the index of its list.
-fn find_place(places: &[(u32, u32)], item: u32) -> Option<u32>
-    ensures { (list : List ℕ) → IsIndexOf list places.now → IsDistinct ◌==◌ list → result ≡ position (λ x. x == item) list }
+// The place of an item in a list, by the index of the list.
+fn find_place(list: &[u32], places: &[u32], item: u32) -> Option<u32>
+    requires index { IsIndexOf list.now places.now }
+    requires distinct { IsDistinct ◌==◌ list.now }
+    ensures { result ≡ position (λ x. x == item) list.now }
 {
-    match places.binary_search_by_key(&item, |p| p.0) {
-        Ok(at) => Some(places[at].1),
+    match places.binary_search_by_key(&item, |place| item_at(list, *place)) {
+        Ok(at) => Some(places[at]),
         Err(_) => None,
     }
 }

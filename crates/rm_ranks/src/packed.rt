@@ -1,6 +1,6 @@
-// Lists of distinct numbers, one after the other in one buffer, each with its items in their order and their places.
+// Lists of distinct numbers, one after the other in one buffer, each with the places of its items in the items' order.
 
-ghost use Rattle.std.specs.Prelude.{◌≡◌, ◌+◌, ◌<◌, ◌^◌, ◌==◌, [], ◌∷◌, ◌++◌, length, take, IfOk, OnOk, OnErr};
+ghost use Rattle.std.specs.Prelude.{◌≡◌, ◌+◌, ◌<◌, ◌^◌, ◌==◌, [], ◌∷◌, ◌++◌, length, take, slice_index, IfOk, OnOk, OnErr};
 ghost use Rattle.std.specs.List.{IsDistinct};
 ghost use Rattle.rm_ranks.specs.Packed.{ArePacked, AddsIndex, lists_of};
 
@@ -13,11 +13,12 @@ pub struct Span {
     pub end: usize,
 }
 
-// The items of all lists; of each list its items by number, each with its place; and where each list stands in both.
+// The items of all lists; of each list its places, counted from 0, by the number of the item there; and where each list
+// stands in both.
 #[derive(Drop)]
 pub struct Packed {
     pub items: Vec<u32>,
-    pub places: Vec<(u32, u32)>,
+    pub places: Vec<u32>,
     pub spans: Vec<Span>,
 }
 
@@ -99,16 +100,24 @@ impl Packed {
     }
 }
 
-// Adds the items of a list in their order, each with its place.
-fn push_places(places: &mut Vec<(u32, u32)>, list: &[u32]) -> Result<(), AllocError>
+// Adds the places of a list in the order of their items.
+fn push_places(places: &mut Vec<u32>, list: &[u32]) -> Result<(), AllocError>
     requires { IsDistinct ◌==◌ list.now }
     ensures index { OnOk result (AddsIndex list.now places.old.items places.new.items) }
     ensures front { OnErr result (take (length places.old.items) places.new.items ≡ places.old.items) }
 {
     let start = places.len();
+    places.reserve(list.len())?;
     for place in 0..list.len() {
-        places.push((list[place], place as u32))?;
+        places.push(place as u32)?;
     }
-    places[start..].sort_unstable_by_key(|place| place.0);
+    places[start..].sort_unstable_by_key(|place| item_at(list, *place));
     Ok(())
+}
+
+// The item at a place of a list; 0 past its end.
+pub fn item_at(list: &[u32], place: u32) -> u32
+    ensures { result ≡ slice_index list.now place }
+{
+    list.get(place as usize).copied().unwrap_or(0)
 }

@@ -1,6 +1,6 @@
-use Rattle.std.proofs.Common.{◌≡◌, ◌++◌, take}
-use Rattle.rm_ranks.specs.Packed.{placed_from}
+use Rattle.std.proofs.Common.{◌≡◌, ◌++◌}
+use Rattle.std.specs.List.{range_with_len}
 use Rattle.rm_ranks.proofs.packed.push_places.Given as goal
 
 abbrev pub invariant-loop-place : goal.invariant-loop-place
-invariant-loop-place l = l.places.items ≡ l.initial.places.items ++ placed_from 0 (take l.place l.list)
+invariant-loop-place l = l.places.items ≡ l.initial.places.items ++ range_with_len 0 l.place
