@@ -7,7 +7,7 @@ use Rattle.rm_base.specs.declared.kept_name.KeptName.TheVariants as kept
 
 abbrev pub kept_text : KeptName → Text
 kept_text (kept.Short short) = short
-kept_text (kept.Long long) = string_bytes long
+kept_text (kept.Long long) = string_bytes long.value
 kept_text (kept.Lent text) = text.now
 
 abbrev pub same_text : KeptName → KeptName → Bool

@@ -13,11 +13,11 @@ use crate::short_name::ShortName;
 use std::alloc::Global;
 use std::hash::{Hash, Hasher};
 
-/// A name, in place where it has at most 30 bytes, so that a look-up seldom goes to the heap. A name that is looked up is lent.
+/// A name, in place where it has at most 22 bytes, so that a look-up seldom goes to the heap. A name that is looked up is lent.
 #[derive(Drop)]
 pub enum KeptName<'a> {
     Short(ShortName),
-    Long(String),
+    Long(Box<String>),
     Lent(&'a str),
 }
 
@@ -28,7 +28,7 @@ impl<'a> KeptName<'a> {
     {
         match ShortName::new(name) {
             Some(short) => Ok(KeptName::Short(short)),
-            None => Ok(KeptName::Long(String::from_str(alloc, name)?)),
+            None => Ok(KeptName::Long(Box::new(alloc, String::from_str(alloc, name)?)?)),
         }
     }
 

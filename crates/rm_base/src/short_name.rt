@@ -5,8 +5,8 @@ ghost use Rattle.std.specs.Prelude.{◌≡◌, ◌↔◌, ◌≤◌, length, IsU
 use std::marker::Model;
 use std::str;
 
-/// The most bytes of a short name. With its length and the mark of its kind it takes 32 bytes, half a line of the cache.
-pub const MOST_SHORT_BYTES: usize = 30;
+/// The most bytes of a short name. With its length and the mark of its kind it takes 24 bytes, as few as a lent name takes.
+pub const MOST_SHORT_BYTES: usize = 22;
 
 /// A short name: its bytes stand at the front of the room.
 #[derive(Drop)]
@@ -23,7 +23,7 @@ impl Model for ShortName {
 
     ghost view = { λ s. take s.len s.bytes };
 
-    ghost invariant = { λ s. (s.len ≤ 30) × ∥ IsUtf8 (take s.len s.bytes) ∥₁ };
+    ghost invariant = { λ s. (s.len ≤ 22) × ∥ IsUtf8 (take s.len s.bytes) ∥₁ };
 }
 
 impl ShortName {
