@@ -1,4 +1,5 @@
 pub mod Numbering
+pub mod Runs
 pub mod ListedContracts
 pub mod RankOrder
 pub mod ListedOrders

@@ -11,11 +11,10 @@ use Rattle.rm_sets.specs.Sets.{IsIn, below}
 use Rattle.rm_sets.proofs.Members.{IsIn-all_below}
 use Rattle.rm_sets.proofs.Once.{length-below, get_or-below}
 use Rattle.rm_sets.proofs.Sets.{below-all_below}
-use Rattle.rm_board_laws.proofs.Contracts.{pair_in}
 use Rattle.rm_market.specs.Board.{pairs_from, pairs_of, number_of, owners_of_ranks}
 use Rattle.rm_board.specs.ByDoctor.{AreByDoctor, IsFirstWithin, contracts_of_doctor}
 use Rattle.rm_board.proofs.Filling.{starts-rise, starts-within, no-contracts}
-use Rattle.rm_board.specs.Numbers.{AreContracts, rank_lists}
+use Rattle.rm_board.specs.Numbers.{AreContracts, AreRuns, rank_lists}
 use Rattle.rm_board.specs.declared.doctors.ByDoctor.{ByDoctor}
 use Rattle.rm_board.specs.declared.hospitals.ByHospital.{ByHospital}
 
@@ -44,18 +43,13 @@ doctors-own : (h : ℕ) (rank : List ℕ) → map (λ p. p.0) (own h rank) ≡ r
 doctors-own h [] = refl
 doctors-own h (d ∷ rank) = ap (λ (ds : List ℕ). d ∷ ds) (doctors-own h rank)
 
-hospitals-own : (h : ℕ) (rank : List ℕ) → map (λ p. p.1) (own h rank) ≡ replicate (length rank) h
+pub hospitals-own : (h : ℕ) (rank : List ℕ) → map (λ p. p.1) (own h rank) ≡ replicate (length rank) h
 hospitals-own h [] = refl
 hospitals-own h (d ∷ rank) = ap (λ (hs : List ℕ). h ∷ hs) (hospitals-own h rank)
 
 pub doctors-more : (ranks : List (List ℕ)) (h : ℕ) → h < length ranks → owners_of_ranks (take (h + 1) ranks) ≡ owners_of_ranks (take h ranks) ++ get_or ranks h []
 doctors-more ranks h lt =
     rw (pairs-more ranks h lt, map-append (λ (p : ℕ × ℕ). p.0) (pairs_of (take h ranks)) (own h (get_or ranks h [])), doctors-own h (get_or ranks h [])) refl
-
-pub hospitals-more : (ranks : List (List ℕ)) (h : ℕ) → h < length ranks →
-    map (λ p. p.1) (pairs_of (take (h + 1) ranks)) ≡ map (λ p. p.1) (pairs_of (take h ranks)) ++ replicate (length (get_or ranks h [])) h
-hospitals-more ranks h lt =
-    rw (pairs-more ranks h lt, map-append (λ (p : ℕ × ℕ). p.1) (pairs_of (take h ranks)) (own h (get_or ranks h [])), hospitals-own h (get_or ranks h [])) refl
 
 pub length-own : (h : ℕ) (rank : List ℕ) → length (own h rank) ≡ length rank
 length-own h rank = length-map {B = ℕ × ℕ} rank (λ d. (d, h))
@@ -206,27 +200,29 @@ length-doctors ranks h = length-map {B = ℕ} (pairs_of (take h ranks)) (λ p. p
 
 pub record AreNumbered (ranks : List (List ℕ)) (h : ℕ) (b : ByHospital) : Type 0 where
   pub doctor : b.doctors.items ≡ owners_of_ranks (take h ranks)
-  pub hospital : b.hospitals.items ≡ map (λ p. p.1) (pairs_of (take h ranks))
   pub as_many : length b.starts.items ≡ h + 1
   pub start : (k : ℕ) → k ≤ h → get_or b.starts.items k 0 ≡ length (pairs_of (take k ranks))
 
 module _ (ranks : List (List ℕ)) (h : ℕ) (b : ByHospital) (done : AreNumbered ranks h b) where
-  count-is : length b.doctors.items ≡ length (pairs_of (take h ranks))
+  pub count-is : length b.doctors.items ≡ length (pairs_of (take h ranks))
   count-is = ap length done.doctor ∙ length-doctors ranks h
+
+  -- with the contracts of the next hospital added
+  pub added-count : (rank : List ℕ) → h < length ranks → rank ≡ get_or ranks h [] → length b.doctors.items + length rank ≡ length (pairs_of (take (h + 1) ranks))
+  added-count rank lt rank-is =
+      omega (arith, count-is, ap length rank-is, ap length (pairs-more ranks h lt), length-append (pairs_of (take h ranks)) (own h (get_or ranks h [])), length-own h (get_or ranks h []))
 
   pub add-fits : (rank : List ℕ) → h < length ranks → rank ≡ get_or ranks h [] → sum_by length ranks < 4_000_000_000 → length b.doctors.items + length rank < 4_000_000_000
   add-fits rank lt rank-is few =
-      omega (arith, count-is, ap length rank-is, few-contracts ranks few, pairs-front ranks (h + 1), ap length (pairs-more ranks h lt), length-append (pairs_of (take h ranks)) (own h (get_or ranks h [])), length-own h (get_or ranks h []))
+      omega (arith, added-count rank lt rank-is, few-contracts ranks few, pairs-front ranks (h + 1))
 
   pub numbered-more : (new : ByHospital) (rank : List ℕ) → h < length ranks → rank ≡ get_or ranks h [] → new.doctors.items ≡ b.doctors.items ++ rank →
-      new.hospitals.items ≡ b.hospitals.items ++ replicate (length rank) h → new.starts.items ≡ b.starts.items ++ (length b.doctors.items + length rank) ∷ [] → AreNumbered ranks (h + 1) new
-  numbered-more new rank lt rank-is doctors hospitals starts =
+      new.starts.items ≡ b.starts.items ++ (length b.doctors.items + length rank) ∷ [] → AreNumbered ranks (h + 1) new
+  numbered-more new rank lt rank-is doctors starts =
       let end = length b.doctors.items + length rank in
-      let ended : end ≡ length (pairs_of (take (h + 1) ranks)) =
-      omega (arith, count-is, ap length rank-is, ap length (pairs-more ranks h lt), length-append (pairs_of (take h ranks)) (own h (get_or ranks h [])), length-own h (get_or ranks h [])) in
+      let ended : end ≡ length (pairs_of (take (h + 1) ranks)) = added-count rank lt rank-is in
       record {
         doctor = rw (doctors, done.doctor, rank-is) (sym (doctors-more ranks h lt));
-        hospital = rw (hospitals, done.hospital, rank-is) (sym (hospitals-more ranks h lt));
         as_many = omega (arith, ap length starts, length-append b.starts.items (end ∷ []), done.as_many);
         start = λ k le. rw starts (elim (cases_lt k (h + 1)) [
           | inl before ↦ get_or_append_left b.starts.items (end ∷ []) 0 k (omega (arith, done.as_many)) ∙ done.start k (omega arith)
@@ -237,17 +233,17 @@ module _ (ranks : List (List ℕ)) (h : ℕ) (b : ByHospital) (done : AreNumbere
   pub numbered-few : sum_by length ranks < 4_000_000_000 → length b.doctors.items < 4_000_000_000
   numbered-few few = omega (arith, count-is, pairs-front ranks h, few-contracts ranks few)
 
-  pub numbered-all : (by_doctor : ByDoctor) → sum_by length ranks < 4_000_000_000 → length ranks < 2 ^ 32 → length ranks ≡ h →
-      AreByDoctor b.doctors.items by_doctor.starts.items by_doctor.contracts.items → AreContracts ranks b by_doctor
-  numbered-all by_doctor few few-hospitals end index =
+  pub numbered-all : (new : ByHospital) (by_doctor : ByDoctor) → new.doctors.items ≡ b.doctors.items → new.starts.items ≡ b.starts.items → AreRuns ranks new.runs.items →
+      sum_by length ranks < 4_000_000_000 → length ranks < 2 ^ 32 → length ranks ≡ h → AreByDoctor new.doctors.items by_doctor.starts.items by_doctor.contracts.items → AreContracts ranks new by_doctor
+  numbered-all new by_doctor doctors starts runs few few-hospitals end index =
       let all : take h ranks ≡ ranks = take_all h ranks (omega arith) in
       record {
         few = few-contracts ranks few;
         few_hospitals = few-hospitals;
-        doctor = rw all at done.doctor;
-        hospital = rw all at done.hospital;
-        as_many = omega (arith, done.as_many);
-        start = λ k le. done.start k (omega arith);
+        doctor = doctors ∙ (rw all at done.doctor);
+        as_many = omega (arith, ap length starts, done.as_many);
+        start = λ k le. rw starts (done.start k (omega arith));
+        runs = runs;
         own = index;
       }
 
@@ -279,11 +275,6 @@ module _ (ranks : List (List ℕ)) (b : ByHospital) (by_doctor : ByDoctor) (are 
 
   pub rank-read : (h start end : ℕ) → h < length ranks → start ≡ length (pairs_of (take h ranks)) → end ≡ length (pairs_of (take (h + 1) ranks)) → slice_range b.doctors.items start end ≡ get_or ranks h []
   rank-read h start end lt start-is end-is = ap (λ (ds : List ℕ). slice_range ds start end) are.doctor ∙ rank-is ranks h start end lt start-is end-is
-
-  pub hospital-below : (x h : ℕ) → x < length (pairs_of ranks) → h ≡ get_or b.hospitals.items x h → h < length ranks
-  hospital-below x h lt read =
-      let e : h ≡ (get_or (pairs_of ranks) x (0, 0)).1 = (rw are.hospital at read) ∙ get_or-map (λ (p : ℕ × ℕ). p.1) (pairs_of ranks) x (0, 0) h lt in
-      omega (arith, e, (pair_in 0 ranks x lt).1)
 
   pub own-forward : (d start end : ℕ) → d + 1 < length by_doctor.starts.items → start ≡ get_or by_doctor.starts.items d 0 → end ≡ get_or by_doctor.starts.items (d + 1) 0 → start ≤ end
   own-forward d start end lt start-is end-is = omega (arith, start-is, end-is, starts-rise b.doctors.items by_doctor.starts.items are.own.begin d (d + 1) (omega arith) lt)

@@ -25,19 +25,18 @@ pub struct Board {
     contracts: Contracts,
     tree: Tree,
     steps: Vec<Steps>,
-    order: Vec<u32>,
     places: Vec<u32>,
 }
 
 impl Model for Board {
     ghost use Rattle.rm_market.specs.Board.{Board as MarketBoard};
-    ghost use Rattle.rm_board.specs.Boards.{board_of, IsBoardKept};
+    ghost use Rattle.rm_board.specs.Boards.{board_of, ties_of, IsBoardKept};
 
     ghost Value = { MarketBoard };
 
-    ghost view = { λ b. board_of b.contracts b.tree b.steps.items b.order.items };
+    ghost view = { λ b. board_of b.contracts b.tree b.steps.items (ties_of b.places.items) };
 
-    ghost invariant = { λ b. IsBoardKept b.contracts b.tree b.steps.items b.order.items b.places.items };
+    ghost invariant = { λ b. IsBoardKept b.contracts b.tree b.steps.items b.places.items };
 }
 
 impl Board {
@@ -68,7 +67,6 @@ impl Board {
             contracts,
             tree,
             steps,
-            order,
             places,
         })
     }

@@ -7,7 +7,7 @@ ghost use Rattle.rm_board.specs.ByDoctor.{contracts_of_doctor};
 ghost use Rattle.rm_board.specs.Numbers.{number_at};
 
 use crate::doctors::{ByDoctor, first_within};
-use crate::hospitals::ByHospital;
+use crate::hospitals::{ByHospital, RUN};
 use rm_ranks::Lists;
 use std::alloc::{AllocError, Global};
 use std::marker::Model;
@@ -47,12 +47,12 @@ fn items_in(lists: &Lists) -> usize
 }
 
 // The numbers from one place up to another.
-fn between(numbers: &[u32], start: u32, end: u32) -> &[u32]
+fn between(numbers: &[u32], start: usize, end: usize) -> &[u32]
     requires forward { start ≤ end }
     requires within { end ≤ length numbers.now }
     ensures { result.now ≡ slice_range numbers.now start end }
 {
-    &numbers[start as usize..end as usize]
+    &numbers[start..end]
 }
 
 impl Contracts {
@@ -70,6 +70,7 @@ impl Contracts {
         for h in 0..ranks.len() {
             by_hospital.add(h, ranks.list(h))?;
         }
+        by_hospital.runs.push(ranks.len())?;
         let by_doctor = ByDoctor::build(alloc, &by_hospital.doctors)?;
         Ok(Contracts {
             by_hospital,
@@ -99,7 +100,11 @@ impl Contracts {
         ensures hospital { result ≡ hospital_of_number self.now x }
         ensures below { result < length self.now }
     {
-        self.by_hospital.hospitals[x as usize]
+        let run = x as usize / RUN;
+        let first = self.by_hospital.runs[run] as usize;
+        let last = self.by_hospital.runs[run + 1] as usize;
+        let ends = between(&self.by_hospital.starts, first + 1, last + 1);
+        (first + ends.partition_point(|end| *end <= x)) as u32
     }
 
     /// The doctor of each contract.
@@ -133,7 +138,7 @@ impl Contracts {
     {
         let start = self.start(h as usize);
         let end = self.start(h as usize + 1);
-        between(&self.by_hospital.doctors, start, end)
+        between(&self.by_hospital.doctors, start as usize, end as usize)
     }
 
     // The contract at a place of the rank list of hospital h.
@@ -155,7 +160,7 @@ impl Contracts {
         }
         let start = self.by_doctor.starts[d];
         let end = self.by_doctor.starts[d + 1];
-        between(&self.by_doctor.contracts, start, end)
+        between(&self.by_doctor.contracts, start as usize, end as usize)
     }
 
     /// The contract of doctor d and hospital h; None exactly where h doesn't rank d.
