@@ -1,10 +1,9 @@
 -- What a removal, an addition or a swap does to the worth decides whether it is better.
-use Rattle.std.proofs.Common.{◌≡◌, ℕ, ◌<◌, ◌≤◌, List, length, position, FitsSigned, w64, eqb, cond, rules, Bool, int_lt, true, false, ltb, ℤ, pos, ◌-ℤ◌, ◌≤ℤ◌, ◌<ℤ◌, Some, None, sym, subst, inl, inr, ⊎_elim, arith, ◌∙◌}
+use Rattle.std.proofs.Common.{◌≡◌, ℕ, ◌<◌, ◌≤◌, List, FitsSigned, w64, int_lt, true, false, ltb, ℤ, pos, ◌-ℤ◌, ◌≤ℤ◌, ◌<ℤ◌, Some, None, sym, subst, inl, inr, ⊎_elim, arith, ◌∙◌}
 use Rattle.std.proofs.lemmas.Int.{ints}
 use Rattle.std.proofs.lemmas.Bool.{cases_Bool, cases_lt, lt-ltb, le-ltb}
 use lib.Signed.{le_z}
 use Rattle.std.specs.Prelude.{◌^◌}
-use Rattle.std.specs.List.{position_or_len}
 use Rattle.rm_sets.specs.Sets.{has, IsIn, IsSetBelow, with_one, without}
 use Rattle.rm_sets.proofs.Sets.{not_both}
 use Rattle.rm_sets.proofs.Members.{not_in_from, not_in_without, without_within, with_one-without, IsSetBelow-without}

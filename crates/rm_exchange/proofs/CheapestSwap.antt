@@ -1,30 +1,29 @@
 -- What a swap changes, rated along the walk from the offer's leaf outwards.
-use Rattle.std.proofs.Common.{◌≡◌, ◌≢◌, ◌∙◌, ◌⊎◌, ℕ, zero, suc, ◌+◌, ◌-◌, ◌*◌, ◌<◌, ◌≤◌, List, [], ◌∷◌, Bool, true, false, not, ◌&&◌, ◌||◌, length, map, get_or, eqb, count_by, Option, Some, None, ℤ, pos, ◌+ℤ◌, ◌-ℤ◌, ◌≤ℤ◌, ◌<ℤ◌, refl, sym, ap, subst, inl, inr, ⊎_elim, arith, eqb-true, eq-eqb, add-one}
+use Rattle.std.proofs.Common.{◌≡◌, ◌∙◌, ℕ, zero, suc, ◌-◌, ◌<◌, List, Bool, true, false, not, ◌&&◌, length, get_or, count_by, Some, ℤ, ◌+ℤ◌, ◌-ℤ◌, ◌≤ℤ◌, refl, sym, ap, subst, ⊎_elim, arith, add-one}
 use Rattle.std.specs.List.{slice_get}
 use Rattle.std.proofs.lemmas.Int.{ints}
-use Rattle.std.proofs.lemmas.Bool.{cases_eq, cases_lt, cases_Bool, or_cases, or_left, or_right, false_from_ne_true}
+use Rattle.std.proofs.lemmas.Bool.{cases_lt}
 use Rattle.std.proofs.lemmas.Option.{slice_get-get_or}
 use Rattle.std.proofs.lemmas.List.Elements.{All-get_or}
-use Rattle.rm_sets.specs.Sets.{has, IsIn, IsSet, IsSetBelow}
+use Rattle.rm_sets.specs.Sets.{IsIn, IsSet}
 use Rattle.rm_sets.proofs.Sets.{not_both}
-use Rattle.rm_sets.proofs.Members.{IsIn-get_or, not_in_without}
-use Rattle.rm_market.specs.Board.{Node, Board, contract_count, count, leaf_of, node_at, no_node, sets_of, IsFalling}
-use Rattle.rm_market.specs.Tree.{is_inside, chain}
+use Rattle.rm_sets.proofs.Members.{IsIn-get_or}
+use Rattle.rm_market.specs.Board.{Board, contract_count, leaf_of, node_at, no_node, sets_of, IsFalling}
+use Rattle.rm_market.specs.Tree.{is_inside}
 use Rattle.rm_laminar.specs.Chains.{IsOrderedChain}
 use Rattle.rm_laminar.proofs.Laminar.{chain-holds}
 use Rattle.rm_laminar.proofs.Parents.{parent-next}
-use Rattle.rm_valuation_laws.specs.Scores.{place}
 use Rattle.rm_valuation_laws.specs.Changes.{on, sum_upto, in_node, next_step, last_step, swap_gain, swap_loss, test_at, IsConcaveBoard}
 use Rattle.rm_valuation_laws.specs.Order.{is_under}
 use Rattle.rm_valuation_laws.specs.Offers.{IsFull}
 use Rattle.rm_valuation_laws.proofs.Counts.{one, count-without}
 use Rattle.rm_valuation_laws.proofs.Steps.{falls}
-use Rattle.rm_valuation_laws.proofs.Sums.{sum_upto_add, sum_by_place}
+use Rattle.rm_valuation_laws.proofs.Sums.{sum_by_place}
 use Rattle.rm_valuation_laws.proofs.Order.{inside_tests, under_tests, comparable}
 use Rattle.rm_exchange.specs.Entrants.{HasHospitals, inner_cost}
 use Rattle.rm_exchange.specs.Prospects.{swap_change}
 use Rattle.rm_exchange.proofs.Inner.{inner, inner_next, inner_none, inside_parent}
-use Rattle.rm_exchange.proofs.Homes.{holds_test, parent_is, leaf_test, nothing_inside}
+use Rattle.rm_exchange.proofs.Homes.{holds_test, parent_is, nothing_inside}
 use Rattle.rm_exchange.proofs.Mending.{first_node}
 
 -- ---- sums term by term

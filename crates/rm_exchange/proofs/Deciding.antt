@@ -1,33 +1,26 @@
 -- What is decided of an offer is the best subset of what is held with it.
-use Rattle.std.proofs.Common.{◌≡◌, ◌≢◌, ◌∙◌, ◌⊎◌, ℕ, ◌<◌, ◌≤◌, List, Bool, true, false, length, Option, Some, None, ℤ, pos, ◌+ℤ◌, ◌-ℤ◌, ◌≤ℤ◌, ◌<ℤ◌, refl, sym, ap, subst, inl, inr, ⊎_elim, arith}
+use Rattle.std.proofs.Common.{◌≡◌, ◌≢◌, ◌∙◌, ◌⊎◌, ℕ, ◌<◌, ◌≤◌, List, true, false, length, Option, Some, None, ℤ, pos, ◌+ℤ◌, ◌≤ℤ◌, ◌<ℤ◌, refl, sym, ap, subst, inl, inr, ⊎_elim, arith}
 use Rattle.std.proofs.lemmas.Int.{ints}
 use Rattle.std.proofs.lemmas.Bool.{cases_eq, cases_Bool, lt-ltb}
-use Rattle.rm_sets.specs.Sets.{has, IsIn, IsSet, IsSetBelow, IsWithin, with_one, without}
-use Rattle.rm_sets.proofs.Sets.{not_both, IsSet-with_one, same_sets}
-use Rattle.rm_sets.proofs.Members.{within_refl, within-with_one, IsIn-with_one_new, without_within, with_one_within}
-use Rattle.rm_market.specs.Best.{Values, is_better, IsBest, IsValuation, best_of, values_of, swapped}
-use Rattle.rm_market.specs.Board.{Board, contract_count, node_at, sets_of, is_feasible, worth}
-use Rattle.rm_market.specs.Machine.{IsOutcome}
-use Rattle.rm_market.specs.declared.Outcome.{Outcome}
-use Rattle.rm_market.specs.declared.Outcome.TheVariants as out
+use Rattle.rm_sets.specs.Sets.{has, IsIn, IsSetBelow, with_one}
+use Rattle.rm_sets.proofs.Sets.{not_both, IsSet-with_one}
+use Rattle.rm_sets.proofs.Members.{within_refl, within-with_one, IsIn-with_one_new}
+use Rattle.rm_market.specs.Best.{Values, is_better, IsBest, values_of, swapped}
+use Rattle.rm_market.specs.Board.{Board, node_at, is_feasible, worth}
 use Rattle.rm_valuation_laws.specs.Scores.{score, place}
-use Rattle.rm_valuation_laws.specs.Changes.{IsConcaveBoard, gain, swap_gain, swap_loss, test_at}
+use Rattle.rm_valuation_laws.specs.Changes.{IsConcaveBoard, test_at}
 use Rattle.rm_valuation_laws.specs.Offers.{IsFull, IsInside, EndsWalk, IsWalkAnswer}
-use Rattle.rm_valuation_laws.proofs.Moves.{with_other, without_other, swapped_new, swapped_old, swapped_other, apart, swapped_within}
-use Rattle.rm_valuation_laws.proofs.Score.{better_from_higher, higher_from_better, infeasible_not_better}
+use Rattle.rm_valuation_laws.proofs.Moves.{apart, swapped_within}
+use Rattle.rm_valuation_laws.proofs.Score.{higher_from_better, infeasible_not_better}
 use Rattle.rm_valuation_laws.proofs.Leads.{score_by_worth, score_by_tie, score_of_addition, leads_of_swaps, place_same}
 use Rattle.rm_valuation_laws.proofs.Decision.{addition_over_swap, swap_over_held, held_over_swap}
 use Rattle.rm_valuation_laws.proofs.Change.{worth_added, worth_swapped, added_infeasible, swap_feasible}
 use Rattle.rm_valuation_laws.proofs.Walk.{walk_best}
 use Rattle.rm_valuation_laws.proofs.Order.{inside_tests, comparable}
 use Rattle.rm_valuation_laws.proofs.Offers.{IsSet-swapped}
-use Rattle.rm_valuation_laws.proofs.LaminarExchange.{board_laws}
-use Rattle.rm_valuation_laws.proofs.Best.{best_unique}
-use Rattle.rm_valuation_laws.proofs.BestOf.{best_of_is}
 use Rattle.rm_exchange.specs.declared.prospects.Swap.{Swap}
 use Rattle.rm_exchange.specs.declared.prospects.Prospects.{Prospects}
-use Rattle.rm_exchange.specs.Entrants.{HasHospitals}
-use Rattle.rm_exchange.specs.Prospects.{swap_change, IsNoGreater, IsBestRated, IsBestRatedOf, AreProspects, IsOwnAddition, IsKeeping, IsSwapping, IsRefusing, IsDecided}
+use Rattle.rm_exchange.specs.Prospects.{swap_change, IsNoGreater, IsBestRated, IsBestRatedOf, AreProspects, IsOwnAddition, IsKeeping, IsSwapping, IsRefusing}
 
 -- a set is no better where its score is no higher, if it is feasible at all
 not_better : (v : Values) (S D : List ℕ) → v.feasible D ≡ true → (v.feasible S ≡ true → score v S ≤ℤ score v D) → is_better v S D ≡ false

@@ -1,5 +1,5 @@
 -- The greatest number of a heap, as one comes or goes.
-use Rattle.std.proofs.Common.{◌≡◌, ◌∙◌, ℕ, ◌<◌, ◌≤◌, List, [], ◌∷◌, true, length, get_or, Option, Some, None, refl, sym, ap, subst, ⊎_elim, arith, true≢false, Result, Ok, Err}
+use Rattle.std.proofs.Common.{◌≡◌, ◌∙◌, All, ℕ, ◌<◌, ◌≤◌, List, [], ◌∷◌, true, length, get_or, Option, Some, None, sym, subst, ⊎_elim, arith, true≢false, Result, Ok, Err}
 use Rattle.std.specs.Ordering.{nat_cmp}
 use Rattle.std.specs.Prelude.{IfSome, IfNone, OnOk, is_ok}
 use Rattle.std.specs.List.Sorted.{IsPermutation}
@@ -7,30 +7,20 @@ use Rattle.std.specs.BinaryHeap.{IsHeap, IsUpperBound, PopsGreatest}
 use Rattle.std.proofs.lemmas.List.Sorted.{IsPermutation-sym, Contains-permutation, le_from_greatest}
 use Rattle.rm_sets.specs.Sets.{IsIn}
 use Rattle.rm_sets.proofs.Sets.{IsIn-here, IsIn-later, IsIn-cases}
-use Rattle.rm_sets.proofs.Members.{not_in_nil, members_from_All, IsIn-get_or, IsIn-from_Contains, Contains-from_IsIn}
-use Rattle.rm_valuation_laws.specs.Scores.{place}
-use Rattle.rm_exchange.specs.declared.removal.Removal.{Removal}
-use Rattle.rm_exchange.specs.Leaves.{IsOwnRemoval, IsGreatest, IsGreatestOf}
+use Rattle.rm_sets.proofs.Members.{not_in_nil, members_from_All, All-from_members, IsIn-get_or, IsIn-from_Contains, Contains-from_IsIn}
+use Rattle.rm_exchange.specs.Leaves.{IsGreatest, IsGreatestOf}
 
 in_permutation : (xs ys : List ℕ) (y : ℕ) → IsPermutation xs ys → IsIn y xs → IsIn y ys
 in_permutation xs ys y p i = IsIn-from_Contains ys y (Contains-permutation xs ys y p (Contains-from_IsIn xs y i))
 
-own_of : (ties : List ℕ) (x : ℕ) (r : Removal) → IsOwnRemoval ties x r → IsOwnRemoval ties r.contract r
-own_of ties x r own = record { contract = refl; tie = own.tie ∙ ap (place ties) (sym own.contract); loss = own.loss }
-
 -- the top of a heap
-pub top_greatest : (ties items : List ℕ) (x : ℕ) (r : Removal) → 0 < length items → x ≡ get_or items 0 x → IsUpperBound nat_cmp x items → IsOwnRemoval ties x r → IsGreatest ties items r
-top_greatest ties items x r some top up own = record {
-  own = own_of ties x r own;
-  member = subst (λ w. IsIn w items) (sym (own.contract ∙ top)) (IsIn-get_or items 0 x some);
-  greatest = λ y i. let le = members_from_All (λ w. w ≤ x) items (le_from_greatest x items up) y i in let e = own.contract in omega arith;
-}
+pub top_greatest : (items : List ℕ) (x : ℕ) → 0 < length items → x ≡ get_or items 0 x → IsUpperBound nat_cmp x items → IsGreatest items x
+top_greatest items x some top up = record { member = subst (λ w. IsIn w items) (sym top) (IsIn-get_or items 0 x some); greatest = members_from_All (λ w. w ≤ x) items (le_from_greatest x items up) }
 
 -- one more, that is less
-pub still_greatest : (ties old new : List ℕ) (x : ℕ) (best : Removal) → IsGreatest ties old best → x < best.contract → IsPermutation (x ∷ old) new → IsGreatest ties new best
-still_greatest ties old new x best k less p = record {
-  own = k.own;
-  member = in_permutation (x ∷ old) new best.contract p (IsIn-later best.contract x old k.member);
+pub still_greatest : (old new : List ℕ) (x last : ℕ) → IsGreatest old last → x < last → IsPermutation (x ∷ old) new → IsGreatest new last
+still_greatest old new x last k less p = record {
+  member = in_permutation (x ∷ old) new last p (IsIn-later last x old k.member);
   greatest = λ y i. ⊎_elim
       (λ e. omega arith)
       (λ there. k.greatest y there)
@@ -38,23 +28,22 @@ still_greatest ties old new x best k less p = record {
 }
 
 -- one more, that is no less
-none_above : (ties old : List ℕ) (x : ℕ) (o : Option Removal) → IsGreatestOf ties old o → IfSome o (λ r. r.contract ≤ x) → (y : ℕ) → IsIn y old → y ≤ x
-none_above ties old x None k up y i = absurd (not_in_nil y (subst (λ S. IsIn y S) k i))
-none_above ties old x (Some r) k up y i = let le = k.greatest y i in omega (arith, le, up)
+none_above : (old : List ℕ) (x : ℕ) (o : Option ℕ) → IsGreatestOf old o → IfSome o (λ z. z ≤ x) → (y : ℕ) → IsIn y old → y ≤ x
+none_above old x None k up y i = absurd (not_in_nil y (subst (λ S. IsIn y S) k i))
+none_above old x (Some z) k up y i = let le = k.greatest y i in omega (arith, le, up)
 
-pub no_more : (x : ℕ) (o : Option Removal) (r : Removal) → o ≡ Some r → r.contract ≤ x → IfSome o (λ r. r.contract ≤ x)
-no_more x o r e le = subst (λ o. IfSome o (λ r. r.contract ≤ x)) (sym e) le
+pub no_more : (x : ℕ) (o : Option ℕ) (z : ℕ) → o ≡ Some z → z ≤ x → IfSome o (λ z. z ≤ x)
+no_more x o z e le = subst (λ o. IfSome o (λ z. z ≤ x)) (sym e) le
 
-pub none_before : (x : ℕ) (o : Option Removal) → o ≡ None → IfSome o (λ r. r.contract ≤ x)
-none_before x o e = subst (λ o. IfSome o (λ r. r.contract ≤ x)) (sym e) tt
+pub none_before : (x : ℕ) (o : Option ℕ) → o ≡ None → IfSome o (λ z. z ≤ x)
+none_before x o e = subst (λ o. IfSome o (λ z. z ≤ x)) (sym e) tt
 
-pub new_greatest : (ties old new : List ℕ) (x : ℕ) (o : Option Removal) (r : Removal) → IsGreatestOf ties old o → IfSome o (λ r. r.contract ≤ x) → IsPermutation (x ∷ old) new → IsOwnRemoval ties x r → IsGreatest ties new r
-new_greatest ties old new x o r k up p own = record {
-  own = own_of ties x r own;
-  member = subst (λ w. IsIn w new) (sym own.contract) (in_permutation (x ∷ old) new x p (IsIn-here x old));
+pub new_greatest : (old new : List ℕ) (x : ℕ) (o : Option ℕ) → IsGreatestOf old o → IfSome o (λ z. z ≤ x) → IsPermutation (x ∷ old) new → IsGreatest new x
+new_greatest old new x o k up p = record {
+  member = in_permutation (x ∷ old) new x p (IsIn-here x old);
   greatest = λ y i. ⊎_elim
-      (λ e. let f = own.contract in omega arith)
-      (λ there. let le = none_above ties old x o k up y there in let f = own.contract in omega arith)
+      (λ e. omega arith)
+      (λ there. none_above old x o k up y there)
       (IsIn-cases y x old (in_permutation new (x ∷ old) y (IsPermutation-sym (x ∷ old) new p) i));
 }
 
@@ -70,6 +59,12 @@ taken_is old new z (Some x) order p top none inz up =
     let high = members_from_All (λ w. w ≤ x) old (le_from_greatest x old (top order).1) z inz in
     let e : x ≡ z = omega (arith, low, high) in
     subst (λ w. IsPermutation old (w ∷ new)) e p
+
+-- what holds of all in a heap holds of all that are left
+pub rest_known : (L : Type 0) → (P : ℕ → Type 0) (old new : List ℕ) (o : Option ℕ) → All P old → IfSome o (λ x. IsPermutation old (x ∷ new)) → IfNone o ((new ≡ old) × L) → All P new
+rest_known L P old new None all p same = subst (All P) (sym same.0) all
+rest_known L P old new (Some z) all p same =
+    All-from_members P new (λ y i. members_from_All P old all y (in_permutation (z ∷ new) old y (IsPermutation-sym old (z ∷ new) p) (IsIn-later y z new i)))
 
 pub from_on_ok : {A E : Type 0} (P : Type 0) (r : Result A E) → is_ok r ≡ true → OnOk r P → P
 from_on_ok P (Ok a) e p = p

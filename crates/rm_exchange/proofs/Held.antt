@@ -1,10 +1,11 @@
 -- The marked contracts as a set.
-use Rattle.std.proofs.Common.{◌≡◌, ◌∙◌, ℕ, ◌<◌, ◌≤◌, List, Bool, true, false, not, ◌&&◌, ◌||◌, length, get_or, set, eqb, ltb, Option, Some, refl, sym, ap, ⊎_elim, arith, eqb-true, eq-eqb}
-use Rattle.std.proofs.lemmas.Bool.{cases_eq, and_parts, and_from, lt-ltb, cases_Bool}
-use Rattle.std.proofs.lemmas.List.{get_or-set_same, get_or-set_other}
-use Rattle.rm_sets.specs.Sets.{has, IsIn, IsSet, IsSetBelow, with_one, without}
-use Rattle.rm_sets.proofs.Sets.{not_both, has-all_below, IsSetBelow-all_below, same_sets, IsSet-with_one, IsSet-without}
+use Rattle.std.proofs.Common.{◌≡◌, ◌∙◌, ℕ, ◌<◌, List, Bool, true, false, ◌&&◌, length, get_or, set, ltb, sym, ap, ⊎_elim, arith}
+use Rattle.std.proofs.lemmas.Bool.{cases_eq, lt-ltb}
+use Rattle.std.proofs.lemmas.List.{get_or-set_same, get_or-set_other, length-set}
+use Rattle.rm_sets.specs.Sets.{has, IsSetBelow, with_one, without}
+use Rattle.rm_sets.proofs.Sets.{has-all_below, IsSetBelow-all_below, same_sets, IsSet-with_one, IsSet-without}
 use Rattle.rm_sets.proofs.Members.{IsIn-with_one_new, not_in_without}
+use Rattle.rm_market.specs.Best.{swapped}
 use Rattle.rm_valuation_laws.proofs.Moves.{with_other, without_other}
 use Rattle.rm_exchange.specs.Holding.{held_of}
 
@@ -33,3 +34,7 @@ held_without n marks x l lt =
     (λ e. ap (λ w. has w (held_of n (set marks x false))) e ∙ (held_mark n (set marks x false) x lt ∙ (get_or-set_same marks x false false (omega arith) ∙ (sym (not_in_without (held_of n marks) x) ∙ ap (λ w. has w (without (held_of n marks) x)) (sym e)))))
     (λ ne. held_other n marks x y false ne ∙ sym (without_other (held_of n marks) x y ne))
     (cases_eq y x))
+
+-- one contract in the place of another
+pub held_swapped : (n : ℕ) (marks : List Bool) (x z : ℕ) → length marks ≡ n → x < n → z < n → held_of n (set (set marks z false) x true) ≡ swapped (held_of n marks) x z
+held_swapped n marks x z l lx lz = held_with n (set marks z false) x (length-set marks z false ∙ l) lx ∙ ap (λ S. with_one S x) (held_without n marks z l lz)

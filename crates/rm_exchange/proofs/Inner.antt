@@ -1,14 +1,14 @@
 -- Sums over the nodes of a contract that lie inside a node.
-use Rattle.std.proofs.Common.{◌≡◌, ◌∙◌, ℕ, zero, suc, ◌<◌, ◌≤◌, List, Bool, true, false, not, ◌&&◌, ◌||◌, length, eqb, ℤ, pos, ◌+ℤ◌, ◌-ℤ◌, ◌≤ℤ◌, refl, sym, ap, subst, inl, inr, ⊎_elim, arith, eqb-true, eq-eqb}
+use Rattle.std.proofs.Common.{◌≡◌, ◌∙◌, ℕ, ◌<◌, List, Bool, true, false, ◌&&◌, ◌||◌, length, eqb, ℤ, pos, ◌+ℤ◌, refl, sym, ap, subst, ⊎_elim, arith, eqb-true, eq-eqb}
 use Rattle.std.proofs.lemmas.Int.{ints}
 use Rattle.std.proofs.lemmas.Bool.{or_cases, or_left, or_right, false_from_ne_true}
-use Rattle.rm_sets.proofs.Sets.{not_both, same_tests}
+use Rattle.rm_sets.proofs.Sets.{same_tests}
 use Rattle.rm_market.specs.Board.{Board, node_at, sets_of}
 use Rattle.rm_market.specs.Tree.{is_inside}
 use Rattle.rm_valuation_laws.specs.Changes.{on, sum_upto, last_step, test_at, loss_upto, IsConcaveBoard}
 use Rattle.rm_valuation_laws.specs.Order.{is_under, IsParent}
 use Rattle.rm_valuation_laws.proofs.Sums.{sum_upto_same, sum_upto_zero, sum_upto_add, sum_upto_one}
-use Rattle.rm_valuation_laws.proofs.Order.{inside_trans, inside_once, inside_tests, comparable}
+use Rattle.rm_valuation_laws.proofs.Order.{inside_trans, inside_once, comparable}
 
 -- the sum, over the nodes of z inside node a, of their numbers
 abbrev pub inner : Board → (ℕ → ℤ) → ℕ → ℕ → ℤ

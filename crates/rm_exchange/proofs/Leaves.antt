@@ -1,18 +1,18 @@
 -- The held contracts of a hospital: the greatest one is the cheapest, and one comes or goes.
-use Rattle.std.proofs.Common.{◌≡◌, ◌≢◌, ◌∙◌, ℕ, ◌+◌, ◌<◌, ◌≤◌, List, [], ◌∷◌, Bool, true, false, ◌&&◌, length, get_or, set, eqb, count_by, All, Option, Some, None, pos, refl, sym, ap, subst, inr, ⊎_elim, arith, eqb-true, eq-eqb, ne_eqb, add-one}
+use Rattle.std.proofs.Common.{◌≡◌, ◌≢◌, ◌∙◌, ℕ, ◌+◌, ◌<◌, ◌≤◌, List, [], ◌∷◌, ◌++◌, Bool, true, false, ◌&&◌, length, get_or, set, eqb, count_by, All, Option, Some, None, pos, refl, sym, ap, subst, inr, ⊎_elim, arith, eqb-true, eq-eqb, ne_eqb, add-one}
 use Rattle.std.specs.Ordering.{nat_cmp}
 use Rattle.std.specs.List.Sorted.{IsPermutation}
 use Rattle.std.specs.BinaryHeap.{heap_items, heap_len, heap_capacity, IsHeap}
 use Rattle.std.proofs.lemmas.Int.{ints}
 use Rattle.std.proofs.lemmas.Bool.{cases_eq, cases_lt, cases_Bool, and_parts, and_from}
-use Rattle.std.proofs.lemmas.List.{get_or-set_same, get_or-set_other, length-set}
+use Rattle.std.proofs.lemmas.List.{get_or-set_same, get_or-set_other, length-set, get_or_push, get_or_append_left}
 use Rattle.std.proofs.lemmas.List.Sums.{count_by-le-length}
 use Rattle.std.proofs.lemmas.List.Sorted.{sum_by_pushed, sum_by_popped}
 use Rattle.rm_sets.specs.Sets.{has, IsIn, IsSet, IsSetBelow, with_one, without, below}
 use Rattle.rm_sets.proofs.Sets.{IsIn-here, IsIn-later, IsIn-cases, IsSet-with_one, IsSet-without, IsSet-all_below, below-all_below}
 use Rattle.rm_sets.proofs.Sizes.{length-all_below}
 use Rattle.rm_sets.proofs.Members.{not_in_nil, not_in_from, with_one_within, IsIn-all_below, All-from_members}
-use Rattle.rm_market.specs.Board.{Board, contract_count, leaf_of, node_at, sets_of, count_at}
+use Rattle.rm_market.specs.Board.{Board, contract_count, leaf_of, node_at, cap_of, sets_of, count_at}
 use Rattle.rm_market.specs.Tree.{is_inside, set_of}
 use Rattle.rm_valuation_laws.specs.Scores.{place}
 use Rattle.rm_valuation_laws.specs.Changes.{test_at, last_step}
@@ -22,7 +22,9 @@ use Rattle.rm_valuation_laws.proofs.Moves.{with_other, without_other}
 use Rattle.rm_exchange.specs.declared.removal.Removal.{Removal}
 use Rattle.rm_exchange.specs.declared.leaf.Leaf.{Leaf}
 use Rattle.rm_exchange.specs.Entrants.{HasHospitals, inner_cost, IsBestAt}
-use Rattle.rm_exchange.specs.Leaves.{IsGreatestOf, IsLeafOf, AreLeaves}
+use Rattle.rm_exchange.specs.Prospects.{AgreesWith}
+use Rattle.rm_exchange.specs.Leaves.{IsGreatestOf, IsTieOf, IsOwnRemovalOf, IsLeafOf, AreLeaves}
+use Rattle.rm_exchange.specs.Holding.{IsLastHeld}
 use Rattle.rm_exchange.proofs.Inner.{inner_none}
 use Rattle.rm_exchange.proofs.Lists.{with_last}
 use Rattle.rm_exchange.proofs.Homes.{own_test, leaf_test_is, nothing_inside}
@@ -97,35 +99,58 @@ nothing_lost b plan H h y lt ly t =
     inner_none b (λ k. last_step b H (node_at b k)) h y
     (λ k lk tk. subst (λ w. is_inside (sets_of b) k w ≡ false) (leaf_is b plan h y lt t) (nothing_inside b plan y k ly lk tk))
 
-pub leaf_best : (b : Board) → HasHospitals b → (H : List ℕ) → IsSetBelow (contract_count b) H → (h : ℕ) → h < length b.ranks → (leaf : Leaf) → IsLeafOf b H h leaf → (o : Option Removal) → leaf.best ≡ o → IsBestAt b H h o
-leaf_best b plan H sH h lt leaf k None e = λ y inH.
-    ⊎_elim
-    (λ t. absurd (not_in_nil y (subst (λ S. IsIn y S) (none leaf.best e k.best) (member_from b H h y leaf k inH t))))
-    (λ f. f)
-    (cases_Bool (test_at b h y))
+pub leaf_best : (b : Board) → HasHospitals b → (H : List ℕ) → IsSetBelow (contract_count b) H → (h : ℕ) → h < length b.ranks → (leaf : Leaf) → IsLeafOf b H h leaf → (o : Option Removal) → IsOwnRemovalOf b.ties leaf.last o → IsBestAt b H h o
+leaf_best b plan H sH h lt leaf k o own = by_last leaf.last k.last own
   where
-    none : (o : Option Removal) → o ≡ None → IsGreatestOf b.ties (heap_items leaf.held) o → heap_items leaf.held ≡ []
-    none None e g = g
-    none (Some r) e g = absurd (cc)
-leaf_best b plan H sH h lt leaf k (Some r) e =
-    let top : IsGreatestOf b.ties (heap_items leaf.held) (Some r) = subst (IsGreatestOf b.ties (heap_items leaf.held)) e k.best in
-    let own = top.own in
-    let here = member_of b H h r.contract leaf k top.member in
-    let lr = sH.below r.contract here.0 in
-    let lost = nothing_lost b plan H h r.contract lt lr here.1 in
-    let zero = own.loss in
+    by_last : (last : Option ℕ) → IsGreatestOf (heap_items leaf.held) last → IsOwnRemovalOf b.ties last o → IsBestAt b H h o
+    by_last None none own = subst (IsBestAt b H h) (sym own) (λ y inH.
+        ⊎_elim
+        (λ t. absurd (not_in_nil y (subst (λ S. IsIn y S) none (member_from b H h y leaf k inH t))))
+        (λ f. f)
+        (cases_Bool (test_at b h y)))
+    by_last (Some z) top own =
+        let here = member_of b H h z leaf k top.member in
+        let lz = sH.below z here.0 in
+        let lost = nothing_lost b plan H h z lt lz here.1 in
+        subst (IsBestAt b H h) (sym own) (record {
+          held = here.0;
+          passes = here.1;
+          tie = refl;
+          loss = sym lost;
+          least = λ y inH t. inr (
+            lost ∙ sym (nothing_lost b plan H h y lt (sH.below y inH) t),
+            later_tie b plan y z lz (leaf_is b plan h y lt t ∙ sym (leaf_is b plan h z lt here.1)) (top.greatest y (member_from b H h y leaf k inH t)),
+          );
+          low = omega (arith, ints);
+          high = omega (arith, ints);
+        })
+
+-- the last contract of a leaf
+pub last_held : (b : Board) → HasHospitals b → (H : List ℕ) (h : ℕ) → h < length b.ranks → (leaf : Leaf) → IsLeafOf b H h leaf → (z : ℕ) → leaf.last ≡ Some z → IsLastHeld b H h z
+last_held b plan H h lt leaf k z e =
+    let top : IsGreatestOf (heap_items leaf.held) (Some z) = subst (IsGreatestOf (heap_items leaf.held)) e k.last in
+    let here = member_of b H h z leaf k top.member in
+    let leaf_z = leaf_is b plan h z lt here.1 in
     record {
       held = here.0;
-      passes = here.1;
-      tie = own.tie;
-      loss = own.loss ∙ sym lost;
-      least = λ y inH t. inr (
-        lost ∙ sym (nothing_lost b plan H h y lt (sH.below y inH) t),
-        later_tie b plan y r.contract lr (leaf_is b plan h y lt t ∙ sym (leaf_is b plan h r.contract lt here.1)) (top.greatest y (member_from b H h y leaf k inH t)),
-      );
-      low = omega (arith, ints);
-      high = omega (arith, ints);
+      leaf = leaf_z;
+      greatest = λ y inH same. top.greatest y (member_from b H h y leaf k inH (leaf_test_is b plan h y lt ∙ eq-eqb (leaf_of b y) h (same ∙ leaf_z)));
     }
+
+-- of the last contract of its own leaf, the numbers tell whether x comes before it in tie order
+pub last_agrees : (b : Board) → HasHospitals b → (H : List ℕ) → IsSetBelow (contract_count b) H → (h : ℕ) → h < length b.ranks → (leaf : Leaf) → IsLeafOf b H h leaf → (x : ℕ) → x < contract_count b → leaf_of b x ≡ h → AgreesWith b.ties x leaf.last
+last_agrees b plan H sH h lt leaf k x lx here = by_last leaf.last refl
+  where
+    by_last : (last : Option ℕ) → leaf.last ≡ last → AgreesWith b.ties x last
+    by_last None e = tt
+    by_last (Some z) e =
+        let is = last_held b plan H h lt leaf k z e in (
+          λ less. plan.agrees x z less (sH.below z is.held) (here ∙ sym is.leaf),
+          λ first. ⊎_elim
+              (λ less. less)
+              (λ ge. absurd (let late = later_tie b plan z x lx (is.leaf ∙ sym here) ge in omega (arith, late, first)))
+              (cases_lt x z),
+        )
 
 -- ---- one contract comes or goes
 
@@ -148,8 +173,8 @@ leaf_room b H h x leaf sH lx new t k =
     let room = k.room in
     omega arith
 
-pub leaf_with : (b : Board) (H : List ℕ) (h x : ℕ) (leaf next : Leaf) → has x H ≡ false → test_at b h x ≡ true → IsLeafOf b H h leaf → IsPermutation (x ∷ heap_items leaf.held) (heap_items next.held) → (IsHeap nat_cmp (heap_items leaf.held) → IsHeap nat_cmp (heap_items next.held)) → IsGreatestOf b.ties (heap_items next.held) next.best → heap_capacity leaf.held ≤ heap_capacity next.held → IsLeafOf b (with_one H x) h next
-leaf_with b H h x leaf next new t k items order best wide = record {
+pub leaf_with : (b : Board) (H : List ℕ) (h x : ℕ) (leaf next : Leaf) → has x H ≡ false → test_at b h x ≡ true → IsLeafOf b H h leaf → IsPermutation (x ∷ heap_items leaf.held) (heap_items next.held) → (IsHeap nat_cmp (heap_items leaf.held) → IsHeap nat_cmp (heap_items next.held)) → IsGreatestOf (heap_items next.held) next.last → IsTieOf b.ties next.last next.last_tie → next.cap ≡ leaf.cap → heap_capacity leaf.held ≤ heap_capacity next.held → IsLeafOf b (with_one H x) h next
+leaf_with b H h x leaf next new t k items order last tie cap wide = record {
   same = λ p.
       let pushed = sum_by_pushed (λ z. one (p z)) x (heap_items leaf.held) (heap_items next.held) items in
       let old = k.same p in
@@ -158,11 +183,13 @@ leaf_with b H h x leaf next new t k items order best wide = record {
       omega arith;
   room = let r = k.room in omega arith;
   order = order k.order;
-  best = best;
+  cap = cap ∙ k.cap;
+  last = last;
+  tie = tie;
 }
 
-pub leaf_without : (b : Board) (H : List ℕ) (h z : ℕ) (leaf next : Leaf) → IsSet H → IsIn z H → test_at b h z ≡ true → IsLeafOf b H h leaf → IsPermutation (heap_items leaf.held) (z ∷ heap_items next.held) → IsHeap nat_cmp (heap_items next.held) → IsGreatestOf b.ties (heap_items next.held) next.best → heap_capacity next.held ≡ heap_capacity leaf.held → IsLeafOf b (without H z) h next
-leaf_without b H h z leaf next sH inH t k items order best wide = record {
+pub leaf_without : (b : Board) (H : List ℕ) (h z : ℕ) (leaf next : Leaf) → IsSet H → IsIn z H → test_at b h z ≡ true → IsLeafOf b H h leaf → IsPermutation (heap_items leaf.held) (z ∷ heap_items next.held) → IsHeap nat_cmp (heap_items next.held) → IsGreatestOf (heap_items next.held) next.last → IsTieOf b.ties next.last next.last_tie → next.cap ≡ leaf.cap → heap_capacity next.held ≡ heap_capacity leaf.held → IsLeafOf b (without H z) h next
+leaf_without b H h z leaf next sH inH t k items order last tie cap wide = record {
   same = λ p.
       let popped = sum_by_popped (λ y. one (p y)) z (heap_items leaf.held) (heap_items next.held) items in
       let old = k.same p in
@@ -171,7 +198,9 @@ leaf_without b H h z leaf next sH inH t k items order best wide = record {
       omega arith;
   room = let r = k.room in omega arith;
   order = order;
-  best = best;
+  cap = cap ∙ k.cap;
+  last = last;
+  tie = tie;
 }
 
 -- a leaf stays as it is where the same contracts are held there
@@ -180,7 +209,9 @@ leaf_stays b H K h leaf sH sK agree k = record {
   same = λ p. k.same p ∙ count_agree (λ y. p y && test_at b h y) H K sH sK (λ y t. agree y (and_parts (p y) (test_at b h y) t).1);
   room = k.room;
   order = k.order;
-  best = k.best;
+  cap = k.cap;
+  last = k.last;
+  tie = k.tie;
 }
 
 -- one leaf changes, and at the others the same contracts are held
@@ -252,10 +283,21 @@ counted_more b x leaf counts next own is wide few put old h lt =
 
 -- ---- no contracts
 
-pub empty_leaf : (b : Board) (h : ℕ) (leaf : Leaf) → heap_items leaf.held ≡ [] → count_at b (below (contract_count b)) h ≤ heap_capacity leaf.held → leaf.best ≡ None → IsHeap nat_cmp (heap_items leaf.held) → IsLeafOf b [] h leaf
-empty_leaf b h leaf none room best order = record {
+pub empty_leaf : (b : Board) (h : ℕ) (leaf : Leaf) → heap_items leaf.held ≡ [] → count_at b (below (contract_count b)) h ≤ heap_capacity leaf.held → leaf.cap ≡ cap_of (node_at b h) → leaf.last ≡ None → IsHeap nat_cmp (heap_items leaf.held) → IsLeafOf b [] h leaf
+empty_leaf b h leaf none room cap last order = record {
   same = λ p. ap (count_by p) none;
   room = room;
   order = order;
-  best = subst (IsGreatestOf b.ties (heap_items leaf.held)) (sym best) none;
+  cap = cap;
+  last = subst (IsGreatestOf (heap_items leaf.held)) (sym last) none;
+  tie = subst (λ o. IsTieOf b.ties o leaf.last_tie) (sym last) tt;
 }
+
+-- one leaf more
+pub leaves_more : (b : Board) (n : ℕ) (leaves next : List Leaf) (leaf : Leaf) → next ≡ leaves ++ leaf ∷ [] → length leaves ≡ n → ((h : ℕ) (d : Leaf) → h < n → IsLeafOf b [] h (get_or leaves h d)) → IsLeafOf b [] n leaf → (h : ℕ) (d : Leaf) → h < n + 1 → IsLeafOf b [] h (get_or next h d)
+leaves_more b n leaves next leaf e long old new h d lt =
+    subst (λ L. IsLeafOf b [] h (get_or L h d)) (sym e)
+    (⊎_elim
+    (λ same. subst (IsLeafOf b [] h) (sym (get_or_push leaves leaf d h (long ∙ sym same))) (subst (λ w. IsLeafOf b [] w leaf) (sym same) new))
+    (λ ne. let before : h < n = omega arith in subst (IsLeafOf b [] h) (sym (get_or_append_left leaves (leaf ∷ []) d h (omega arith))) (old h d before))
+    (cases_eq h n))

@@ -9,6 +9,7 @@ pub mod Rounds
 pub mod Inner
 pub mod Homes
 pub mod Mending
+pub mod Nexts
 pub mod Greatest
 pub mod Leaves
 pub mod Held
@@ -17,6 +18,7 @@ pub mod CheapestSwap
 pub mod Walked
 pub mod Deciding
 pub mod Offered
+pub mod FullLeaf
 pub mod Placing
 pub mod Truncated
 pub mod Opening

@@ -197,7 +197,7 @@ put_widths rivals a p o la c =
     (λ ne. sym (ap length (get_or-set_other rivals a c (set (get_or rivals a []) p o) [] ne)))
     (cases_eq c a)
 
-split : (nodes : List ℕ) (i k : ℕ) → i < length nodes → (k ≡ get_or nodes i 0 → ⊥) → has k (drop (suc i) nodes) ≡ false → has k (drop i nodes) ≡ false
+pub split : (nodes : List ℕ) (i k : ℕ) → i < length nodes → (k ≡ get_or nodes i 0 → ⊥) → has k (drop (suc i) nodes) ≡ false → has k (drop i nodes) ≡ false
 split nodes i k lt ne out =
     subst (λ L. has k L ≡ false) (sym (drop-cons nodes i 0 lt))
     (not_in_from k (get_or nodes i 0 ∷ drop (suc i) nodes) (λ h. ⊎_elim (λ s. ne s) (λ t. not_both (has k (drop (suc i) nodes)) t out) (IsIn-cases k (get_or nodes i 0) (drop (suc i) nodes) h)))

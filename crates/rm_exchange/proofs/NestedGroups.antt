@@ -1,13 +1,12 @@
 -- The board of hospitals and nested groups, where each hospital ranks two doctors.
-use Rattle.std.proofs.Common.{◌≡◌, ◌∙◌, ℕ, ◌+◌, ◌<◌, ◌≤◌, List, [], ◌∷◌, true, length, map, get_or, eqb, ℤ, None, Vec, All, sym, ap, subst, arith, ⊎_elim}
+use Rattle.std.proofs.Common.{◌≡◌, ℕ, ◌+◌, ◌<◌, ◌≤◌, List, [], ◌∷◌, true, length, get_or, eqb, ℤ, None, Vec, All, sym, ap, subst, arith}
 use Rattle.std.specs.Prelude.{drop}
 use Rattle.std.specs.List.{IsDistinct}
 use Rattle.std.specs.declared.alloc.Global.{Global}
 use Rattle.rm_laminar.specs.Chains.{chain_lists}
-use Rattle.std.proofs.lemmas.Bool.{cases_lt}
 use Rattle.std.proofs.lemmas.List.{get_or-drop, length-drop}
 use Rattle.std.proofs.lemmas.List.Elements.{All-nil, All-cons, All-from_get_or, All-map}
-use Rattle.rm_sets.specs.Sets.{IsIn, IsSet, IsSetBelow, below}
+use Rattle.rm_sets.specs.Sets.{IsSet, IsSetBelow, below}
 use Rattle.rm_sets.proofs.Once.{distinct_none}
 use Rattle.rm_sets.proofs.Sets.{IsSet-all_below, below-all_below}
 use Rattle.rm_market.specs.Board.{Board, IsBoard, IsFalling, IsTieOrder}

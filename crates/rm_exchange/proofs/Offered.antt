@@ -1,6 +1,7 @@
 -- An offer to what a fast holder holds.
 use Rattle.std.proofs.lemmas.Int.{ints}
-use Rattle.std.proofs.Common.{not, ◌&&◌, map, ◌-ℤ◌, ◌≡◌, ◌∙◌, ℕ, ◌<◌, ◌≤◌, List, true, false, sym, ap, subst, ⊎_elim, arith}
+use Rattle.std.proofs.Common.{not, ◌&&◌, map, ◌-ℤ◌, ◌≡◌, ◌∙◌, ℕ, ◌<◌, ◌≤◌, List, Bool, Option, Some, None, true, false, sym, ap, subst, ⊎_elim, arith}
+use Rattle.std.specs.Prelude.{IfSome}
 use Rattle.std.proofs.lemmas.Bool.{cases_eq}
 use Rattle.rm_sets.specs.Sets.{has, IsIn, IsSet, IsSetBelow, IsWithin, with_one, without}
 use Rattle.rm_sets.proofs.Sets.{same_sets, IsSet-with_one, IsSet-without}
@@ -15,6 +16,7 @@ use Rattle.rm_valuation_laws.proofs.LaminarExchange.{board_laws}
 use Rattle.rm_valuation_laws.proofs.Best.{best_unique, choice_from_bests}
 use Rattle.rm_valuation_laws.proofs.BestOf.{best_of_is}
 use Rattle.rm_exchange.specs.declared.prospects.Prospects.{Prospects}
+use Rattle.rm_exchange.specs.declared.prospects.Swap.{Swap}
 use Rattle.rm_exchange.specs.declared.holding.Holding.{Holding}
 use Rattle.rm_exchange.specs.Entrants.{HasHospitals}
 use Rattle.rm_exchange.specs.Prospects.{swap_change, IsBestRated, IsBestRatedOf, IsSwapping, AreProspects}
@@ -29,6 +31,11 @@ valuation b plan = subst (λ n. IsValuation n (values_of b)) plan.leaves (board_
 -- what is held is its own best subset
 pub own_best : (b : Board) (H : List ℕ) → HasHospitals b → IsSetBelow (contract_count b) H → best_of (values_of b) H ≡ H → IsBest (values_of b) H H
 own_best b H plan sH own = subst (IsBest (values_of b) H) own (best_of_is (contract_count b) (values_of b) H (valuation b plan) sH)
+
+-- the tie of the best swap is the place of its contract
+pub swap_tie : (b : Board) (H : List ℕ) (x : ℕ) (test : ℕ → Bool) (o : Option Swap) → IsBestRatedOf b H x test o → IfSome o (λ s. s.tie ≡ place b.ties s.contract)
+swap_tie b H x test None best = tt
+swap_tie b H x test (Some s) best = best.tie
 
 pub offered : (b : Board) (places : List ℕ) (h : Holding) (x : ℕ) (p : Prospects) → IsHolding b places h → x < contract_count b → has x (held_in b h) ≡ false → AreProspects b (held_in b h) x p → IsOffer b (held_in b h) x p
 offered b places h x p ready lx new prospects =

@@ -1,5 +1,5 @@
 -- A holder that holds nothing, on the board of a market.
-use Rattle.std.proofs.Common.{◌≡◌, ◌∙◌, ℕ, ◌<◌, ◌≤◌, List, [], ◌∷◌, Bool, false, length, map, get_or, replicate, Option, None, refl, sym, ap, subst, ⊎_elim, arith, All}
+use Rattle.std.proofs.Common.{◌≡◌, ◌∙◌, ℕ, ◌<◌, ◌≤◌, List, [], ◌∷◌, Bool, true, false, length, map, get_or, replicate, Option, None, refl, sym, ap, subst, ⊎_elim, arith, All}
 use Rattle.std.specs.Prelude.{◌^◌}
 use Rattle.std.proofs.lemmas.Bool.{cases_lt}
 use Rattle.std.proofs.lemmas.List.{get_or-replicate, get_or_past, length-replicate, length-map, get_or-map}
@@ -24,7 +24,7 @@ use Rattle.rm_valuation.proofs.Counted.{counted_none}
 use Rattle.rm_exchange.specs.declared.removal.Removal.{Removal}
 use Rattle.rm_exchange.specs.declared.holding.Holding.{Holding}
 use Rattle.rm_exchange.specs.Entrants.{HasHospitals, IsEntry}
-use Rattle.rm_exchange.specs.Holding.{held_of, held_in, ArePlacedSo, IsAllKept}
+use Rattle.rm_exchange.specs.Holding.{held_of, held_in, ArePlacedSo, AreNexts, IsAllKept}
 use Rattle.rm_exchange.specs.Leaves.{AreLeaves}
 use Rattle.rm_exchange.proofs.Rounds.{none_of_none}
 use Rattle.rm_exchange.proofs.Held.{held_set, held_mark}
@@ -36,12 +36,18 @@ use Rattle.rm_exchange.proofs.Offered.{valuation}
 pub own_nodes : (b : Board) (t : TreeOf) → t.hospitals ≡ length b.ranks → tree.sets_of_tree t ≡ sets_of b → (h : ℕ) → h < length b.ranks → set_of (sets_of b) h ≡ h ∷ []
 own_nodes b t hospitals same h lt = ap (λ sets. set_of sets h) (sym same) ∙ set-hospital t.hospitals t.groups h (omega arith)
 
-pub nodes_of : (b : Board) (t : TreeOf) (n : ℕ) → t.hospitals ≡ length b.ranks → tree.sets_of_tree t ≡ sets_of b → n ≡ length (tree.sets_of_tree t) → (length b.ranks ≤ length b.nodes) × (n ≡ length b.nodes)
-nodes_of b t n hospitals same e =
+pub hospitals_first : (b : Board) (t : TreeOf) → t.hospitals ≡ length b.ranks → tree.sets_of_tree t ≡ sets_of b → length b.ranks ≤ length b.nodes
+hospitals_first b t hospitals same =
     let l = tree-length t.hospitals t.groups in
     let m = ap length same in
     let k = length-map b.nodes (λ n. n.leaves) in
-    (omega arith, omega arith)
+    omega arith
+
+pub nodes_of : (b : Board) (t : TreeOf) (n : ℕ) → t.hospitals ≡ length b.ranks → tree.sets_of_tree t ≡ sets_of b → n ≡ length (tree.sets_of_tree t) → (length b.ranks ≤ length b.nodes) × (n ≡ length b.nodes)
+nodes_of b t n hospitals same e =
+    let m = ap length same in
+    let k = length-map b.nodes (λ n. n.leaves) in
+    (hospitals_first b t hospitals same, omega arith)
 
 pub few_widths : (b : Board) (m : ℕ) (widths places : List ℕ) → m ≡ length b.nodes → m < 4294967296 → ArePlacedSo b (length b.nodes) widths places → All (λ w. w < 2 ^ 40) widths
 few_widths b m widths places em lm s = All-from_get_or (λ w. w < 2 ^ 40) widths 0 (λ a lt. let f = s.few a in omega arith)
@@ -95,8 +101,8 @@ none_best b H plan e =
     ap (best_of (values_of b)) e ∙ (same_within (best_of (values_of b) []) [] best.set IsSet-nil best.within (within_nil (best_of (values_of b) [])) ∙ sym e)
 
 pub opened : (b : Board) (places widths : List ℕ) (h : Holding) → HasHospitals b → length b.nodes < 4294967296 → length widths ≡ length b.nodes → ArePlacedSo b (length b.nodes) widths places
-    → h.counts.items ≡ replicate (length b.nodes) 0 → h.marks.items ≡ replicate (contract_count b) false → AreLeaves b [] h.leaves.items → h.rivals.items ≡ map (λ width. replicate width None) widths → IsAllKept b places h
-opened b places widths h plan small wide s counts marks leaves rivals =
+    → h.counts.items ≡ replicate (length b.nodes) 0 → AreNexts b (λ k. true) h.counts.items h.nexts.items → h.marks.items ≡ replicate (contract_count b) false → AreLeaves b [] h.leaves.items → h.rivals.items ≡ map (λ width. replicate width None) widths → IsAllKept b places h
+opened b places widths h plan small wide s counts nexts marks leaves rivals =
     let none = none_held (contract_count b) h.marks.items marks in
     record {
       hospitals = plan;
@@ -106,6 +112,7 @@ opened b places widths h plan small wide s counts marks leaves rivals =
       all_nodes = ap length rivals ∙ (length-map widths (λ width. replicate width None) ∙ wide);
       all_placed = s.all;
       counted = subst (λ S. AreCounts b S h.counts.items) (sym none) (counted_none b h.counts.items (ap length counts ∙ length-replicate (length b.nodes) 0) (λ k lt. ap (λ l. get_or l k 0) counts ∙ zeros (length b.nodes) k));
+      nexts = nexts;
       leaves = subst (λ S. AreLeaves b S h.leaves.items) (sym none) leaves;
       placed = other_places b (length b.nodes) (λ a. get_or widths a 0) (λ a. length (get_or h.rivals.items a [])) places (λ a. sym (ap length (empty_at a) ∙ length-replicate (get_or widths a 0) nobody)) s.placed;
       entries = λ e a le ha all.

@@ -1,12 +1,11 @@
 -- The rounds of a tournament: what the first entry says of all, and what a change of one entry changes.
-use Rattle.std.proofs.Common.{◌≡◌, ◌≢◌, ◌∙◌, ◌⊎◌, ℕ, zero, suc, ◌+◌, ◌*◌, ◌-◌, ◌/◌, ◌<◌, ◌≤◌, Bool, true, false, ◌&&◌, ◌||◌, List, length, get_or, set, drop, replicate, ◌<ℤ◌, Option, Some, None, refl, sym, ap, subst, inl, inr, ⊎_elim, arith}
-use Rattle.std.specs.Prelude.{◌^◌, int_lt, nat_le}
-use Rattle.std.specs.Ordering.{int_eq}
+use Rattle.std.proofs.Common.{◌≡◌, ◌≢◌, ◌∙◌, ◌⊎◌, ℕ, zero, suc, ◌+◌, ◌*◌, ◌-◌, ◌/◌, ◌<◌, ◌≤◌, Bool, true, false, List, length, get_or, set, drop, replicate, Option, Some, None, refl, sym, ap, subst, inl, inr, ⊎_elim, arith}
+use Rattle.std.specs.Prelude.{◌^◌}
 use Rattle.std.proofs.lemmas.Int.{ints}
-use Rattle.std.proofs.lemmas.Bool.{cases_eq, cases_lt, cases_Bool}
+use Rattle.std.proofs.lemmas.Bool.{cases_eq, cases_lt}
 use Rattle.std.proofs.lemmas.List.{get_or-set_same, get_or-set_other, get_or-drop, get_or-replicate, get_or_past, get_or_default, length-drop, length-set, length-replicate, drop-replicate}
 use Rattle.rm_exchange.specs.declared.removal.Removal.{Removal}
-use Rattle.rm_exchange.specs.Removals.{IsNoDearer, is_no_dearer, cheapest, IsCheapestRival, IsCheapestOf, AreRounds}
+use Rattle.rm_exchange.specs.Removals.{IsNoDearer, is_no_dearer, cheapest, IsCheapestOf, AreRounds}
 
 -- ---- the cheaper of two
 

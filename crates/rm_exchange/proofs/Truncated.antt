@@ -15,7 +15,7 @@ use Rattle.rm_exchange.specs.declared.removal.Removal.{Removal}
 use Rattle.rm_exchange.specs.declared.holding.Holding.{Holding}
 use Rattle.rm_exchange.specs.Entrants.{ComesFirstOf, IsLeastOf}
 use Rattle.rm_exchange.specs.declared.leaf.Leaf.{Leaf}
-use Rattle.rm_exchange.specs.Leaves.{IsGreatestOf, IsLeafOf}
+use Rattle.rm_exchange.specs.Leaves.{IsGreatestOf, IsTieOf, IsLeafOf}
 use Rattle.rm_exchange.specs.Holding.{IsAllKept}
 
 first_from : (l : ℤ) (t : ℕ) (m : ℤ) (u : ℕ) → ∥ ComesFirstOf l t m u ∥₁ → ComesFirstOf l t m u
@@ -77,24 +77,25 @@ found_from b places j a i t =
     (λ none. absurd (∥∥₁_elim t (Prim.hlevel props) (λ f. not_both (equals_number (parent (sets_of b) f.0) a && eqb (get_or places f.0 0) i) (and_from (equals_number (parent (sets_of b) f.0) a) (eqb (get_or places f.0 0) i) (is_number_of (parent (sets_of b) f.0) a f.2) (eq-eqb (get_or places f.0 0) i f.3)) (none f.0 f.1))))
     (some_below (λ e. equals_number (parent (sets_of b) e) a && eqb (get_or places e 0) i) j)
 
-greatest_from : (ties items : List ℕ) (o : Option Removal) → ∥ IsGreatestOf ties items o ∥₁ → IsGreatestOf ties items o
-greatest_from ties items None t = ∥∥₁_elim t (Prim.hlevel props) (λ f. f)
-greatest_from ties items (Some r) t = record {
-  own = record {
-    contract = refl;
-    tie = ∥∥₁_elim t (Prim.hlevel props) (λ k. k.own.tie);
-    loss = ∥∥₁_elim t (Prim.hlevel props) (λ k. k.own.loss);
-  };
+greatest_from : (items : List ℕ) (o : Option ℕ) → ∥ IsGreatestOf items o ∥₁ → IsGreatestOf items o
+greatest_from items None t = ∥∥₁_elim t (Prim.hlevel props) (λ f. f)
+greatest_from items (Some x) t = record {
   member = ∥∥₁_elim t (Prim.hlevel props) (λ k. k.member);
   greatest = λ y i. ∥∥₁_elim t (Prim.hlevel props) (λ k. k.greatest y i);
 }
+
+tie_from : (ties : List ℕ) (o : Option ℕ) (tie : ℕ) → ∥ IsTieOf ties o tie ∥₁ → IsTieOf ties o tie
+tie_from ties None tie t = tt
+tie_from ties (Some x) tie t = ∥∥₁_elim t (Prim.hlevel props) (λ e. e)
 
 leaf_from : (b : Board) (H : List ℕ) (h : ℕ) (leaf : Leaf) → ∥ IsLeafOf b H h leaf ∥₁ → IsLeafOf b H h leaf
 leaf_from b H h leaf t = record {
   same = λ p. ∥∥₁_elim t (Prim.hlevel props) (λ k. k.same p);
   room = ∥∥₁_elim t (Prim.hlevel props) (λ k. k.room);
   order = ∥∥₁_elim t (IsHeap-prop nat_cmp (heap_items leaf.held)) (λ k. k.order);
-  best = greatest_from b.ties (heap_items leaf.held) leaf.best (∥∥₁_elim t (Prim.hlevel props) (λ k. ∣ k.best ∣₁));
+  cap = ∥∥₁_elim t (Prim.hlevel props) (λ k. k.cap);
+  last = greatest_from (heap_items leaf.held) leaf.last (∥∥₁_elim t (Prim.hlevel props) (λ k. ∣ k.last ∣₁));
+  tie = tie_from b.ties leaf.last leaf.last_tie (∥∥₁_elim t (Prim.hlevel props) (λ k. ∣ k.tie ∣₁));
 }
 
 pub kept_from : (b : Board) (places : List ℕ) (h : Holding) → ∥ IsAllKept b places h ∥₁ → IsAllKept b places h
@@ -106,6 +107,11 @@ kept_from b places h t = record {
   all_nodes = ∥∥₁_elim t (Prim.hlevel props) (λ k. k.all_nodes);
   all_placed = ∥∥₁_elim t (Prim.hlevel props) (λ k. k.all_placed);
   counted = ∥∥₁_elim t (Prim.hlevel props) (λ k. k.counted);
+  nexts = record {
+    all = ∥∥₁_elim t (Prim.hlevel props) (λ k. k.nexts.all);
+    each = λ a la passes. ∥∥₁_elim t (Prim.hlevel props) (λ k. k.nexts.each a la passes);
+    range = λ a step is. ∥∥₁_elim t (Prim.hlevel props) (λ k. k.nexts.range a step is);
+  };
   leaves = record {
     all = ∥∥₁_elim t (Prim.hlevel props) (λ k. k.leaves.all);
     each = λ a d la. leaf_from b _ a _ (∥∥₁_elim t (Prim.hlevel props) (λ k. ∣ k.leaves.each a d la ∣₁));

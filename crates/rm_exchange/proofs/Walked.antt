@@ -1,11 +1,10 @@
 -- The walk of an offer: the best swap for it among the contracts of the nodes so far.
-use Rattle.std.proofs.Common.{◌≡◌, ◌≢◌, ◌∙◌, ◌⊎◌, ℕ, zero, suc, ◌+◌, ◌-◌, ◌*◌, ◌<◌, ◌≤◌, List, [], ◌∷◌, Bool, true, false, cond, length, map, get_or, eqb, Option, Some, None, ℤ, pos, ◌+ℤ◌, ◌-ℤ◌, ◌≤ℤ◌, ◌<ℤ◌, refl, sym, ap, subst, inl, inr, ⊎_elim, arith, eqb-true, eq-eqb, add-one}
+use Rattle.std.proofs.Common.{◌≡◌, ◌∙◌, ◌⊎◌, ℕ, zero, suc, ◌+◌, ◌*◌, ◌<◌, List, [], ◌∷◌, Bool, true, false, cond, length, get_or, eqb, Option, Some, None, ℤ, pos, ◌+ℤ◌, ◌-ℤ◌, ◌≤ℤ◌, ◌<ℤ◌, refl, sym, ap, subst, inl, inr, ⊎_elim, arith, eqb-true, eq-eqb, add-one}
 use Rattle.std.specs.List.{slice_get}
-use Rattle.std.specs.Prelude.{◌^◌, IfSome}
 use Rattle.std.proofs.lemmas.Int.{ints}
 use Rattle.std.proofs.lemmas.Bool.{cases_eq, cases_lt, cases_Bool, or_cases, or_left, or_right}
 use Rattle.std.proofs.lemmas.List.{length-map}
-use Rattle.rm_sets.specs.Sets.{has, IsIn, IsSet, IsSetBelow}
+use Rattle.rm_sets.specs.Sets.{has, IsIn, IsSet}
 use Rattle.rm_sets.proofs.Sets.{not_both}
 use Rattle.rm_sets.proofs.Members.{place_from_IsIn}
 use Rattle.rm_market.specs.Board.{Board, contract_count, leaf_of, node_at, sets_of, is_feasible}
@@ -14,7 +13,7 @@ use Rattle.rm_laminar.specs.Chains.{IsOrderedChain}
 use Rattle.rm_laminar.proofs.Laminar.{holds-chain}
 use Rattle.rm_laminar.proofs.Parents.{splits}
 use Rattle.rm_valuation_laws.specs.Scores.{place}
-use Rattle.rm_valuation_laws.specs.Changes.{sum_upto, next_step, test_at, gain}
+use Rattle.rm_valuation_laws.specs.Changes.{sum_upto, next_step, test_at}
 use Rattle.rm_valuation_laws.specs.Order.{is_under}
 use Rattle.rm_valuation_laws.specs.Offers.{IsFull}
 use Rattle.rm_valuation_laws.proofs.Sums.{sum_by_place}
@@ -30,7 +29,7 @@ use Rattle.rm_exchange.specs.Entrants.{HasHospitals, inner_cost, ComesFirstOf, I
 use Rattle.rm_exchange.specs.Prospects.{swap_change, IsNoGreater, IsBestRated, IsBestRatedOf, exceeds, greater_swap, IsRated, AreProspects}
 use Rattle.rm_exchange.proofs.Homes.{holds_from}
 use Rattle.rm_exchange.proofs.Mending.{InRange, first_node, later_in}
-use Rattle.rm_exchange.proofs.CheapestSwap.{inner_gain, rate, rate_low, rate_is, prior, under_prior, chain_node, inside_prior, prior_in, prior_under, gain_before}
+use Rattle.rm_exchange.proofs.CheapestSwap.{inner_gain, rate_low, rate_is, prior, under_prior, chain_node, inside_prior, prior_in, prior_under, gain_before}
 
 -- ---- the better of two swaps
 

@@ -1,7 +1,7 @@
 -- Of private calls, but for `held_in`, by which the fast holder says what it holds: what it keeps.
-use Rattle.std.specs.Prelude.{◌≡◌, ℕ, ◌+◌, ◌<◌, ◌≤◌, Bool, true, false, not, List, [], length, get_or, set, ℤ, ◌+ℤ◌, Option, Some, None, IsTrue}
-use Rattle.rm_sets.specs.Sets.{all_below}
-use Rattle.rm_market.specs.Board.{Board, contract_count, sets_of}
+use Rattle.std.specs.Prelude.{◌≡◌, ℕ, ◌+◌, ◌<◌, ◌≤◌, Bool, true, false, not, List, [], length, get_or, set, ℤ, pos, ◌+ℤ◌, ◌-ℤ◌, ◌≤ℤ◌, Option, Some, None, IsTrue, slice_get}
+use Rattle.rm_sets.specs.Sets.{IsIn, all_below}
+use Rattle.rm_market.specs.Board.{Board, contract_count, leaf_of, node_at, sets_of}
 use Rattle.rm_market.specs.Tree.{parent}
 use Rattle.rm_market.specs.Best.{best_of, values_of}
 use Rattle.rm_valuation_laws.specs.Changes.{test_at}
@@ -39,7 +39,14 @@ IsEntered (Some k) old new place = (place ≡ get_or old k 0) × (new ≡ set ol
 abbrev pub AreEntries : Board → List ℕ → (ℕ → Bool) → List ℕ → List (List (Option Removal)) → Type 0
 AreEntries b H test places rivals = (k a : ℕ) → k < length b.nodes → parent (sets_of b) k ≡ Some a → IsTrue (test k) → IsEntry b H k (get_or (get_or rivals a []) (get_or places k 0) None)
 
--- counts, leaves and rivals are those of what is marked, the rivals at least for the nodes that pass the test
+-- the step that the next contract takes at each node where there are so many, or none where it is full, at least at the nodes that pass
+-- the test; and no step is a large number
+pub record AreNexts (b : Board) (test : ℕ → Bool) (counts : List ℕ) (nexts : List (Option ℤ)) : Type 0 where
+  pub all : length nexts ≡ length b.nodes
+  pub each : (k : ℕ) → k < length b.nodes → IsTrue (test k) → get_or nexts k None ≡ slice_get (node_at b k).steps (get_or counts k 0)
+  pub range : (k : ℕ) (step : ℤ) → get_or nexts k None ≡ Some step → ((pos 0 -ℤ pos 1000000000) ≤ℤ step) × (step ≤ℤ pos 1000000000)
+
+-- counts, next steps, leaves and rivals are those of what is marked, the rivals at least for the nodes that pass the test
 pub record IsKeptSo (b : Board) (test : ℕ → Bool) (places : List ℕ) (h : Holding) : Type 0 where
   pub hospitals : HasHospitals b
   pub small : length b.nodes < 4294967296
@@ -48,6 +55,7 @@ pub record IsKeptSo (b : Board) (test : ℕ → Bool) (places : List ℕ) (h : H
   pub all_nodes : length h.rivals.items ≡ length b.nodes
   pub all_placed : length places ≡ length b.nodes
   pub counted : AreCounts b (held_in b h) h.counts.items
+  pub nexts : AreNexts b (λ k. true) h.counts.items h.nexts.items
   pub leaves : AreLeaves b (held_in b h) h.leaves.items
   pub placed : ArePlaced b (length b.nodes) (λ a. length (get_or h.rivals.items a [])) places
   pub entries : AreEntries b (held_in b h) test places h.rivals.items
@@ -58,6 +66,12 @@ IsAllKept b places h = IsKeptSo b (λ k. true) places h
 
 abbrev pub IsKeptBut : Board → ℕ → List ℕ → Holding → Type 0
 IsKeptBut b x places h = IsKeptSo b (λ k. not (test_at b k x)) places h
+
+-- of what is held at a leaf the contract of greatest number
+pub record IsLastHeld (b : Board) (H : List ℕ) (h z : ℕ) : Type 0 where
+  pub held : IsIn z H
+  pub leaf : leaf_of b z ≡ h
+  pub greatest : (y : ℕ) → IsIn y H → leaf_of b y ≡ leaf_of b z → y ≤ z
 
 -- the same removal with what one more node loses
 abbrev pub IsFurther : Option Removal → ℤ → Option Removal → Type 0

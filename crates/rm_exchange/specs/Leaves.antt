@@ -3,35 +3,45 @@ use Rattle.std.specs.Prelude.{◌≡◌, ℕ, ◌<◌, ◌≤◌, Bool, ◌&&◌
 use Rattle.std.specs.Ordering.{nat_cmp}
 use Rattle.std.specs.BinaryHeap.{heap_items, heap_capacity, IsHeap}
 use Rattle.rm_sets.specs.Sets.{IsIn, below}
-use Rattle.rm_market.specs.Board.{Board, contract_count, count_at}
+use Rattle.rm_market.specs.Board.{Board, contract_count, node_at, cap_of, count_at}
 use Rattle.rm_valuation_laws.specs.Scores.{place}
 use Rattle.rm_valuation_laws.specs.Changes.{test_at}
 use Rattle.rm_exchange.specs.declared.removal.Removal.{Removal}
 use Rattle.rm_exchange.specs.declared.leaf.Leaf.{Leaf}
 
--- the removal of contract x at its own leaf, where nothing is lost yet
-pub record IsOwnRemoval (ties : List ℕ) (x : ℕ) (r : Removal) : Type 0 where
-  pub contract : r.contract ≡ x
-  pub tie : r.tie ≡ place ties x
-  pub loss : r.loss ≡ pos 0
-
--- the contract of greatest number
-pub record IsGreatest (ties items : List ℕ) (r : Removal) : Type 0 where
-  pub own : IsOwnRemoval ties r.contract r
-  pub member : IsIn r.contract items
-  pub greatest : (y : ℕ) → IsIn y items → y ≤ r.contract
+-- the greatest number of a list
+pub record IsGreatest (items : List ℕ) (x : ℕ) : Type 0 where
+  pub member : IsIn x items
+  pub greatest : (y : ℕ) → IsIn y items → y ≤ x
 
 -- that one, or that there is none
-abbrev pub IsGreatestOf : List ℕ → List ℕ → Option Removal → Type 0
-IsGreatestOf ties items (Some r) = IsGreatest ties items r
-IsGreatestOf ties items None = items ≡ []
+abbrev pub IsGreatestOf : List ℕ → Option ℕ → Type 0
+IsGreatestOf items (Some x) = IsGreatest items x
+IsGreatestOf items None = items ≡ []
 
--- a heap of just those contracts of H that are at node h, with room for all contracts there, and the greatest of them
+-- its place in tie order, where there is one
+abbrev pub IsTieOf : List ℕ → Option ℕ → ℕ → Type 0
+IsTieOf ties (Some x) tie = tie ≡ place ties x
+IsTieOf ties None tie = Unit {0}
+
+-- the removal of a contract at its own leaf, where nothing is lost yet
+abbrev pub own_removal : List ℕ → ℕ → Removal
+own_removal ties x = record { contract = x; tie = place ties x; loss = pos 0 }
+
+-- that of a contract, if there is one
+abbrev pub IsOwnRemovalOf : List ℕ → Option ℕ → Option Removal → Type 0
+IsOwnRemovalOf ties (Some x) r = r ≡ Some (own_removal ties x)
+IsOwnRemovalOf ties None r = r ≡ None
+
+-- a heap of just those contracts of H that are at node h, with room for all contracts there; the cap of the node; the greatest of the
+-- heap, and its place in tie order
 pub record IsLeafOf (b : Board) (H : List ℕ) (h : ℕ) (leaf : Leaf) : Type 0 where
   pub same : (test : ℕ → Bool) → count_by test (heap_items leaf.held) ≡ count_by (λ x. test x && test_at b h x) H
   pub room : count_at b (below (contract_count b)) h ≤ heap_capacity leaf.held
   pub order : IsHeap nat_cmp (heap_items leaf.held)
-  pub best : IsGreatestOf b.ties (heap_items leaf.held) leaf.best
+  pub cap : leaf.cap ≡ cap_of (node_at b h)
+  pub last : IsGreatestOf (heap_items leaf.held) leaf.last
+  pub tie : IsTieOf b.ties leaf.last leaf.last_tie
 
 -- one for each hospital
 pub record AreLeaves (b : Board) (H : List ℕ) (leaves : List Leaf) : Type 0 where

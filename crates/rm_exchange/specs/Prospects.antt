@@ -1,5 +1,5 @@
 -- Of private calls: what an offer may change: its addition, the swaps for it, and which of them is made.
-use Rattle.std.specs.Prelude.{◌≡◌, ◌⊎◌, ℕ, ◌<◌, ◌≤◌, Bool, ◌&&◌, ◌||◌, nat_lt, List, length, ℤ, pos, ◌-ℤ◌, ◌≤ℤ◌, ◌<ℤ◌, int_lt, Option, Some, None, IsTrue, IsFalse, if◌then◌else◌}
+use Rattle.std.specs.Prelude.{◌≡◌, ◌↔◌, ◌⊎◌, ℕ, ◌<◌, ◌≤◌, Bool, ◌&&◌, ◌||◌, nat_lt, List, length, ℤ, pos, ◌-ℤ◌, ◌≤ℤ◌, ◌<ℤ◌, int_lt, Option, Some, None, IsTrue, IsFalse, if◌then◌else◌}
 use Rattle.std.specs.Ordering.{int_eq}
 use Rattle.rm_sets.specs.Sets.{IsIn, with_one}
 use Rattle.rm_market.specs.Board.{Board, node_at, sets_of, is_feasible}
@@ -67,6 +67,11 @@ pub record AreProspects (b : Board) (H : List ℕ) (x : ℕ) (p : Prospects) : T
   pub addition : IsOwnAddition b H x node p.addition
 
 -- ---- the decision
+
+-- x comes before the other contract in tie order exactly where it has the lower number
+abbrev pub AgreesWith : List ℕ → ℕ → Option ℕ → Type 0
+AgreesWith ties x None = Unit {0}
+AgreesWith ties x (Some z) = (x < z) ↔ (place ties x < place ties z)
 
 -- an addition that doesn't lower the worth, and that the swap doesn't exceed
 abbrev pub IsKeeping : Prospects → Type 0

@@ -1,33 +1,36 @@
 // A holder that answers each offer by one exchange.
 
-ghost use Rattle.std.specs.Prelude.{◌≡◌, ◌<◌, ◌^◌, ℕ, List, [], All, false, None, length, get_or, map, replicate, IfOk, IsFalse};
+ghost use Rattle.std.specs.Prelude.{◌≡◌, ◌<◌, ◌^◌, ℕ, List, [], All, true, false, None, length, get_or, map, replicate, IfOk, IsFalse};
 ghost use Rattle.rm_sets.specs.Sets.{has, with_one, IsSetBelow};
 ghost use Rattle.rm_sets.proofs.Sets.{IsSetBelow-all_below};
-ghost use Rattle.rm_market.specs.Board.{contract_count, leaf_of};
+ghost use Rattle.rm_market.specs.Board.{contract_count, leaf_of, node_at};
 ghost use Rattle.rm_market.specs.Best.{IsBest, best_of, values_of};
 ghost use Rattle.rm_market.specs.Machine.{IsOutcome};
 ghost use Rattle.rm_valuation_laws.specs.Changes.{IsConcaveBoard};
+ghost use Rattle.rm_valuation_laws.specs.Offers.{IsFull};
 ghost use Rattle.rm_valuation_laws.proofs.BestOf.{concave_choice};
 ghost use Rattle.rm_valuation.specs.Counts.{IsMarketBoard};
 ghost use Rattle.rm_exchange.specs.Leaves.{AreLeaves};
-ghost use Rattle.rm_exchange.specs.Holding.{held_in, IsAllKept, IsHolding};
+ghost use Rattle.rm_exchange.specs.Holding.{held_in, AreNexts, IsAllKept, IsHolding};
 
-use crate::holding::{Holding, hold, release};
+use crate::holding::{Holding, hold, release, swap_at_leaf};
 use crate::leaf::empty_leaves;
 use crate::places::all_places;
 use crate::prospects::{decide, walk};
 use crate::tournament::Tournament;
 use rm_board::Board;
 use rm_choice::{Holder, NoMemory, Outcome};
+use rm_valuation::next_step;
 use std::alloc::Global;
 
 /// Holds the best subset of what it was offered: the feasible set of greatest worth, of equal worth the first in tie order.
 ///
-/// An offer displaces at most one held contract. It walks along its chain of nodes up to the first full one, and at each of
-/// them looks at the one held contract whose removal loses least there; then it mends what is kept along its own chain, and
-/// along that of the contract that it displaces. So an offer costs the sum, over the nodes of these two chains, of the
-/// logarithms of how many held contracts the hospital has, or how many nodes lie just inside the group (Kojima, Tamura and
-/// Yokoo 2018, the laminar case).
+/// An offer displaces at most one held contract. At a hospital that is full by itself this is the last one there, and an offer
+/// that comes later still is refused with nothing else looked at. Elsewhere an offer walks along its chain of nodes up to the
+/// first full one, and at each of them looks at the one held contract whose removal loses least there. Then it mends what is
+/// kept along its own chain, and along that of the contract that it displaces. So an offer costs the sum, over the nodes of
+/// these two chains, of the logarithms of how many held contracts the hospital has, or how many nodes lie just inside the group
+/// (Kojima, Tamura and Yokoo 2018, the laminar case).
 #[derive(Drop)]
 pub struct FastHolder<'a> {
     board: &'a Board,
@@ -86,10 +89,23 @@ impl<'a> Holder for FastHolder<'a> {
     }
 }
 
+// The step that the next contract takes at each node, where there are so many.
+fn all_nexts(alloc: Global, board: &Board, counts: &[u32]) -> Result<Vec<Option<i64>>, NoMemory>
+    requires { length counts.now ≡ length board.now.nodes }
+    ensures { IfOk result (λ nexts. AreNexts board.now (λ k. true) counts.now nexts.items) }
+{
+    let mut nexts = Vec::with_capacity(alloc, counts.len())?;
+    for node in 0..board.tree().nodes() {
+        nexts.push(next_step(board, counts, node))?;
+    }
+    Ok(nexts)
+}
+
 // Nothing held, with so many places at each node.
 fn nothing(alloc: Global, board: &Board, widths: &[usize]) -> Result<Holding, NoMemory>
     requires { All (λ width. width < 2 ^ 40) widths.now }
     ensures counts { IfOk result (λ h. h.counts.items ≡ replicate (length board.now.nodes) 0) }
+    ensures nexts { IfOk result (λ h. AreNexts board.now (λ k. true) h.counts.items h.nexts.items) }
     ensures marks { IfOk result (λ h. h.marks.items ≡ replicate (contract_count board.now) false) }
     ensures leaves { IfOk result (λ h. AreLeaves board.now [] h.leaves.items) }
     ensures hospitals { IfOk result (λ h. (x : ℕ) → x < contract_count board.now → leaf_of board.now x < length board.now.ranks) }
@@ -97,6 +113,7 @@ fn nothing(alloc: Global, board: &Board, widths: &[usize]) -> Result<Holding, No
 {
     let nodes = board.tree().nodes();
     let counts = vec![in alloc; 0; nodes as usize]?;
+    let nexts = all_nexts(alloc, board, &counts)?;
     let marks = vec![in alloc; false; board.contracts() as usize]?;
     let leaves = empty_leaves(alloc, board)?;
     let mut rivals = Vec::with_capacity(alloc, widths.len())?;
@@ -105,10 +122,32 @@ fn nothing(alloc: Global, board: &Board, widths: &[usize]) -> Result<Holding, No
     }
     Ok(Holding {
         counts,
+        nexts,
         marks,
         leaves,
         rivals,
     })
+}
+
+// Offers x to what is held, where its hospital's own node is full: x takes the place of the last contract there, if that one
+// comes after x.
+fn offer_to_full(board: &Board, places: &[usize], holding: &mut Holding, x: u32) -> Outcome
+    requires holding { IsHolding board.now places.now holding.old }
+    requires contract { x < contract_count board.now }
+    requires new { IsFalse (has x (held_in board.now holding.old)) }
+    requires full { IsFull board.now (held_in board.now holding.old) (node_at board.now (leaf_of board.now x)) }
+    ensures holding { IsHolding board.now places.now holding.new }
+    ensures held { held_in board.now holding.new ≡ best_of (values_of board.now) (with_one (held_in board.now holding.old) x) }
+    ensures outcome { IsOutcome (held_in board.now holding.old) x (held_in board.now holding.new) result }
+{
+    let Some(last) = holding.leaves[board.leaf(x) as usize].last else {
+        return Outcome::Refused;
+    };
+    if last < x {
+        return Outcome::Refused;
+    }
+    swap_at_leaf(board, places, holding, x, last);
+    Outcome::Swapped(last)
 }
 
 // Offers x to what is held.
@@ -120,8 +159,13 @@ fn offer(board: &Board, places: &[usize], holding: &mut Holding, x: u32) -> Outc
     ensures held { held_in board.now holding.new ≡ best_of (values_of board.now) (with_one (held_in board.now holding.old) x) }
     ensures outcome { IsOutcome (held_in board.now holding.old) x (held_in board.now holding.new) result }
 {
+    let leaf = &holding.leaves[board.leaf(x) as usize];
+    if leaf.is_full() {
+        return offer_to_full(board, places, holding, x);
+    }
+    let last = leaf.last;
     let prospects = walk(board, holding, x);
-    match decide(board, prospects, x) {
+    match decide(board, prospects, x, last) {
         Outcome::Kept => {
             hold(board, places, holding, x);
             Outcome::Kept

@@ -1,12 +1,12 @@
-// What is held of each hospital, the contract of greatest number on top.
+// What is held of each hospital, the contract of greatest number on top, and how much it may hold.
 
-ghost use Rattle.std.specs.Prelude.{◌≡◌, ◌∷◌, ◌<◌, ◌≤◌, ℕ, [], length, get_or, All, IfOk};
+ghost use Rattle.std.specs.Prelude.{◌≡◌, ◌↔◌, ◌∷◌, ◌<◌, ◌≤◌, ℕ, List, [], length, get_or, All, IfOk, IfSome, IsTrue};
 ghost use Rattle.std.specs.Ordering.{nat_cmp};
 ghost use Rattle.std.specs.List.Sorted.{IsPermutation};
 ghost use Rattle.std.specs.BinaryHeap.{heap_items, heap_len, heap_capacity, IsHeap, KeepsHeap};
 ghost use Rattle.rm_sets.specs.Sets.{IsIn, below};
 ghost use Rattle.rm_market.specs.Board.{contract_count, leaf_of, count_at};
-ghost use Rattle.rm_exchange.specs.Leaves.{IsOwnRemoval, IsGreatestOf, AreLeaves};
+ghost use Rattle.rm_exchange.specs.Leaves.{IsGreatestOf, IsTieOf, IsOwnRemovalOf, AreLeaves};
 
 use crate::removal::Removal;
 use rm_board::Board;
@@ -14,57 +14,75 @@ use rm_choice::NoMemory;
 use std::alloc::Global;
 use std::collections::BinaryHeap;
 
-// The held contracts of a hospital, and the removal of the one of greatest number. That one is the cheapest to displace: no
-// node lies inside a hospital's own, and of its contracts the greatest number is the last in tie order.
+// The held contracts of a hospital, how many its own node may hold, and the held contract of greatest number with its place in
+// tie order. That one is the cheapest to displace: no node lies inside a hospital's own, and of its contracts the greatest number
+// is the last in tie order.
 #[derive(Drop)]
 pub struct Leaf {
     pub held: BinaryHeap<u32>,
-    pub best: Option<Removal>,
+    pub cap: u32,
+    pub last: Option<u32>,
+    pub last_tie: u32,
 }
 
-// A contract by itself.
-fn own_removal(board: &Board, x: u32) -> Removal
-    requires { x < contract_count board.now }
-    ensures { IsOwnRemoval board.now.ties x result }
-{
-    Removal {
-        contract: x,
-        tie: board.tie(x),
-        loss: 0,
+impl Leaf {
+    // Whether the hospital's own node is full.
+    pub(crate) fn is_full(&self) -> bool
+        ensures { IsTrue result ↔ (self.now.cap ≤ heap_len self.now.held) }
+    {
+        self.held.len() >= self.cap as usize
     }
 }
 
-// The removal of the greatest contract, if there is any.
-fn greatest(board: &Board, held: &BinaryHeap<u32>) -> Option<Removal>
-    requires known { All (λ x. x < contract_count board.now) (heap_items held.now) }
-    requires order { IsHeap nat_cmp (heap_items held.now) }
-    ensures { IsGreatestOf board.now.ties (heap_items held.now) result }
+// The removal of the last contract of a hospital, by itself, if it holds any.
+pub(crate) fn last_removal(leaf: &Leaf) -> Option<Removal>
+    ensures { (ties : List ℕ) → IsTieOf ties leaf.now.last leaf.now.last_tie → IsOwnRemovalOf ties leaf.now.last result }
+{
+    let Some(x) = leaf.last else {
+        return None;
+    };
+    Some(Removal {
+        contract: x,
+        tie: leaf.last_tie,
+        loss: 0,
+    })
+}
+
+// The greatest number of a heap, if there is any.
+fn greatest(held: &BinaryHeap<u32>) -> Option<u32>
+    requires { IsHeap nat_cmp (heap_items held.now) }
+    ensures greatest { IsGreatestOf (heap_items held.now) result }
+    ensures known { (n : ℕ) → All (λ x. x < n) (heap_items held.now) → IfSome result (λ x. x < n) }
 {
     let Some(x) = held.peek() else {
         return None;
     };
-    Some(own_removal(board, *x))
+    Some(*x)
 }
 
 // Holds contract x too.
 pub(crate) fn put_in(board: &Board, leaf: &mut Leaf, x: u32)
     requires contract { x < contract_count board.now }
     requires room { heap_len leaf.old.held < heap_capacity leaf.old.held }
-    requires best { IsGreatestOf board.now.ties (heap_items leaf.old.held) leaf.old.best }
+    requires last { IsGreatestOf (heap_items leaf.old.held) leaf.old.last }
+    requires tie { IsTieOf board.now.ties leaf.old.last leaf.old.last_tie }
     ensures items { IsPermutation (x ∷ heap_items leaf.old.held) (heap_items leaf.new.held) }
     ensures order { KeepsHeap nat_cmp (heap_items leaf.old.held) (heap_items leaf.new.held) }
-    ensures best { IsGreatestOf board.now.ties (heap_items leaf.new.held) leaf.new.best }
+    ensures last { IsGreatestOf (heap_items leaf.new.held) leaf.new.last }
+    ensures tie { IsTieOf board.now.ties leaf.new.last leaf.new.last_tie }
+    ensures cap { leaf.new.cap ≡ leaf.old.cap }
     ensures room { heap_capacity leaf.old.held ≤ heap_capacity leaf.new.held }
 {
     if leaf.held.push(x).is_err() {
         return;
     }
-    if let Some(best) = leaf.best {
-        if x < best.contract {
+    if let Some(last) = leaf.last {
+        if x < last {
             return;
         }
     }
-    leaf.best = Some(own_removal(board, x));
+    leaf.last = Some(x);
+    leaf.last_tie = board.tie(x);
 }
 
 // Lets the greatest contract go.
@@ -73,11 +91,16 @@ pub(crate) fn take_greatest(board: &Board, leaf: &mut Leaf)
     requires order { IsHeap nat_cmp (heap_items leaf.old.held) }
     ensures items { (z : ℕ) → IsIn z (heap_items leaf.old.held) → ((y : ℕ) → IsIn y (heap_items leaf.old.held) → y ≤ z) → IsPermutation (heap_items leaf.old.held) (z ∷ heap_items leaf.new.held) }
     ensures order { IsHeap nat_cmp (heap_items leaf.new.held) }
-    ensures best { IsGreatestOf board.now.ties (heap_items leaf.new.held) leaf.new.best }
+    ensures last { IsGreatestOf (heap_items leaf.new.held) leaf.new.last }
+    ensures tie { IsTieOf board.now.ties leaf.new.last leaf.new.last_tie }
+    ensures cap { leaf.new.cap ≡ leaf.old.cap }
     ensures room { heap_capacity leaf.new.held ≡ heap_capacity leaf.old.held }
 {
     leaf.held.pop();
-    leaf.best = greatest(board, &leaf.held);
+    leaf.last = greatest(&leaf.held);
+    if let Some(x) = leaf.last {
+        leaf.last_tie = board.tie(x);
+    }
 }
 
 // How many contracts each hospital has.
@@ -100,10 +123,17 @@ pub(crate) fn empty_leaves(alloc: Global, board: &Board) -> Result<Vec<Leaf>, No
     ensures leaves { IfOk result (λ leaves. (x : ℕ) → x < contract_count board.now → leaf_of board.now x < length board.now.ranks) }
 {
     let counts = contracts_at(alloc, board)?;
+    let tree = board.tree();
     let mut leaves = Vec::with_capacity(alloc, counts.len())?;
-    for h in 0..counts.len() {
-        let held = BinaryHeap::with_capacity(alloc, counts[h] as usize)?;
-        leaves.push(Leaf { held, best: None })?;
+    for h in 0..tree.hospitals() {
+        let held = BinaryHeap::with_capacity(alloc, counts[h as usize] as usize)?;
+        let cap = board.steps(h).cap();
+        leaves.push(Leaf {
+            held,
+            cap,
+            last: None,
+            last_tie: 0,
+        })?;
     }
     Ok(leaves)
 }

@@ -1,14 +1,25 @@
-use Rattle.std.proofs.Common.{◌∙◌, sym, ap, refl}
+use Rattle.std.proofs.Common.{◌∙◌, sym, ap, refl, subst}
 use Rattle.rm_sets.specs.Sets.{has, with_one}
-use Rattle.rm_market.specs.Board.{contract_count}
+use Rattle.rm_market.specs.Board.{contract_count, node_at}
 use Rattle.rm_market.specs.Best.{swapped}
 use Rattle.rm_valuation_laws.specs.Scores.{place}
+use Rattle.rm_valuation_laws.specs.Changes.{test_at}
+use Rattle.rm_valuation_laws.specs.Offers.{IsFull}
 use Rattle.rm_valuation_laws.proofs.Moves.{without_other, apart}
 use Rattle.rm_exchange.specs.Holding.{held_in}
 use Rattle.rm_exchange.proofs.Held.{held_set}
 use Rattle.rm_exchange.proofs.Deciding.{kept_best, swapped_best, refused_best}
-use Rattle.rm_exchange.proofs.Offered.{own_best, offered, displaced_greatest, settled_by, chosen_by, swapped_is}
+use Rattle.rm_exchange.proofs.Leaves.{leaf_at, last_agrees}
+use Rattle.rm_exchange.proofs.FullLeaf.{leaf_full}
+use Rattle.rm_exchange.proofs.Offered.{own_best, offered, swap_tie, displaced_greatest, settled_by, chosen_by, swapped_is}
 use Rattle.rm_exchange.proofs.fast.offer.Goals as goal
+
+pub offer_to_full-requires-clause-full : goal.offer_to_full-requires-clause-full
+offer_to_full-requires-clause-full c =
+    let b = c.args.board.now in
+    let h = c.args.holding.now in
+    subst (λ a. IsFull b (held_in b h) (node_at b a)) c.leaf.ensures.leaf
+    (leaf_full b (held_in b h) c.leaf.result c.index-leaf.result.now (leaf_at b (held_in b h) h.leaves.items c.leaf.result c.index-leaf.result.now c.requires.holding.kept.leaves c.leaf.ensures.below c.index-leaf.ensures) (c.is_full.ensures.0 c.if-is_full.true))
 
 pub walk-prospects-requires-clause-feasible : goal.walk-prospects-requires-clause-feasible
 walk-prospects-requires-clause-feasible c =
@@ -17,6 +28,19 @@ walk-prospects-requires-clause-feasible c =
 
 pub walk-prospects-requires-clause-kept : goal.walk-prospects-requires-clause-kept
 walk-prospects-requires-clause-kept c = (c.args.places.now, c.requires.holding.kept)
+
+pub decide-requires-clause-tie : goal.decide-requires-clause-tie
+decide-requires-clause-tie c =
+    let b = c.args.board.now in
+    let p = c.walk-prospects.ensures in
+    swap_tie b (held_in b c.args.holding.now) c.args.x (test_at b p.node) c.walk-prospects.result.swap p.swap
+
+pub decide-requires-clause-last : goal.decide-requires-clause-last
+decide-requires-clause-last c =
+    let b = c.args.board.now in
+    let h = c.args.holding.now in
+    let kept = leaf_at b (held_in b h) h.leaves.items c.leaf.result c.index-leaf.result.now c.requires.holding.kept.leaves c.leaf.ensures.below c.index-leaf.ensures in
+    last_agrees b c.requires.holding.kept.hospitals (held_in b h) (held_set (contract_count b) h.marks.items) c.leaf.result c.leaf.ensures.below c.index-leaf.result.now kept c.args.x c.requires.contract (sym c.leaf.ensures.leaf)
 
 pub release-requires-clause-contract : goal.release-requires-clause-contract
 release-requires-clause-contract c =

@@ -2,13 +2,20 @@ use Rattle.std.proofs.Common.{◌≡◌, ◌-◌, get_or, refl, subst, arith, Fi
 use Rattle.std.proofs.lemmas.Int.{ints, to_z-of_z}
 use Rattle.rm_market.specs.Board.{node_at}
 use Rattle.rm_exchange.specs.Holding.{held_in}
-use Rattle.rm_exchange.proofs.Chain.{mending_start, mending_step, mending_end, node_of, chain_home, small_best}
+use Rattle.rm_exchange.proofs.Leaves.{leaf_at}
+use Rattle.rm_exchange.proofs.Chain.{mending_start, mending_none, mending_step, mending_end, node_of, chain_home, small_best}
 use Rattle.rm_exchange.proofs.holding.mend.Goals as goal
+
+pub returns-then-chain-lt2-clause-kept : goal.returns-then-chain-lt2-clause-kept
+returns-then-chain-lt2-clause-kept c = mending_none c.args.board.now c.args.places.now c.args.holding.now c.args.x c.chain_of-chain.result.now c.chain_of-chain.ensures c.if-chain-lt2.true c.requires.kept
 
 pub loop-i-init : goal.loop-i-init
 loop-i-init c =
-    mending_start c.args.board.now c.args.places.now c.args.holding.now c.args.x c.chain_of-chain.result.now c.index.result.now c.requires.kept c.requires.contract c.chain_of-chain.ensures
-    (subst (λ h. c.index.result.now ≡ get_or c.args.holding.now.leaves.items h c.index.result.now) c.leaf.ensures.leaf c.index.ensures)
+    let b = c.args.board.now in
+    let h = c.args.holding.now in
+    let kept = leaf_at b (held_in b h) h.leaves.items c.leaf.result c.index.result.now c.requires.kept.leaves c.leaf.ensures.below c.index.ensures in
+    mending_start c.args.board.now c.args.places.now c.args.holding.now c.args.x c.chain_of-chain.result.now c.index.result.now c.last_removal-best.result c.requires.kept c.requires.contract c.chain_of-chain.ensures
+    (subst (λ h. c.index.result.now ≡ get_or c.args.holding.now.leaves.items h c.index.result.now) c.leaf.ensures.leaf c.index.ensures) (c.last_removal-best.ensures b.ties kept.tie)
 
 pub last_step-requires-clause-node : goal.last_step-requires-clause-node
 last_step-requires-clause-node c =
@@ -51,7 +58,7 @@ loop-i-preserved c =
     let further = simp to_z-of_z at c.further-entry.ensures in
     let inner = get_or c.chain_of-chain.result.now (c.loop-i.i - 1) 0 in
     mending_step c.args.board.now c.args.places.now c.args.holding.now c.loop-i.holding c.args.x c.chain_of-chain.result.now c.loop-i.i c.loop-i.best c.further-entry.result
-    (record { counts = c.loop-i.holding.counts; marks = c.loop-i.holding.marks; leaves = c.loop-i.holding.leaves; rivals = c.change-best.new.rivals }) c.change-best.result c.last_step.result c.requires.contract c.chain_of-chain.ensures c.loop-i-test.true c.loop-i.invariant refl refl refl
+    (record { counts = c.loop-i.holding.counts; nexts = c.loop-i.holding.nexts; marks = c.loop-i.holding.marks; leaves = c.loop-i.holding.leaves; rivals = c.change-best.new.rivals }) c.change-best.result c.last_step.result c.requires.contract c.chain_of-chain.ensures c.loop-i-test.true c.loop-i.invariant refl refl refl refl
     c.change-best.ensures.rivals c.change-best.ensures.best (subst (λ counts. c.last_step.result ≡ get_or (node_at c.args.board.now inner).steps (get_or counts inner 0 - 1) (pos 0)) c.deref.ensures.value c.last_step.ensures.step)
     (low, high) further
 

@@ -3,7 +3,7 @@ use Rattle.std.specs.BinaryHeap.{heap_items}
 use Rattle.rm_exchange.proofs.Greatest.{top_greatest}
 use Rattle.rm_exchange.proofs.leaf.greatest.Goals as goal
 
-pub returns : goal.returns
-returns c =
+pub returns-clause-greatest : goal.returns-clause-greatest
+returns-clause-greatest c =
     let held = c.args.held.now in
-    top_greatest c.args.board.now.ties (heap_items held) c.in-Some.x.now c.own_removal.result (subst (λ n. 0 < n) held.data.ok.0 (c.in-Some.ensures.variant.0 refl)) c.in-Some.ensures.lookup (c.in-Some.ensures.greatest c.requires.order) c.own_removal.ensures
+    top_greatest (heap_items held) c.in-Some.x.now (subst (λ n. 0 < n) held.data.ok.0 (c.in-Some.ensures.variant.0 refl)) c.in-Some.ensures.lookup (c.in-Some.ensures.greatest c.requires)

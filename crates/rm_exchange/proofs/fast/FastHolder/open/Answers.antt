@@ -19,7 +19,7 @@ invariant_of-result c =
       concave = plan.concave;
       leaves = plan.leaves;
       settled = none_best b (held_in b h) plan (none_held (contract_count b) h.marks.items c.in_ok-holding.ensures.marks);
-      kept = ∣ opened b c.in_ok-at.at.places.items c.in_ok-at.at.widths.items h plan at.small at.wide at.placed c.in_ok-holding.ensures.counts c.in_ok-holding.ensures.marks c.in_ok-holding.ensures.leaves
+      kept = ∣ opened b c.in_ok-at.at.places.items c.in_ok-at.at.widths.items h plan at.small at.wide at.placed c.in_ok-holding.ensures.counts c.in_ok-holding.ensures.nexts c.in_ok-holding.ensures.marks c.in_ok-holding.ensures.leaves
           (c.in_ok-holding.ensures.rivals ∙ ap (λ widths. map (λ width. replicate width None) widths) c.deref.ensures.value) ∣₁;
     }
 

@@ -1,6 +1,4 @@
-use Rattle.std.proofs.Common.{◌≡◌, ◌∙◌, ◌<◌, length, sym, false, arith}
-use Rattle.std.proofs.Math.Logic.{∥∥₁_elim}
-use Rattle.std.proofs.Props.{props}
+use Rattle.std.proofs.Common.{◌∙◌, sym, false, arith}
 use Rattle.std.proofs.lemmas.List.{get_or_default}
 use Rattle.rm_market.specs.Board.{contract_count}
 use Rattle.rm_exchange.proofs.Held.{held_mark}

@@ -1,5 +1,4 @@
-use Rattle.std.proofs.Common.{◌≡◌, ◌*◌, ◌-◌, None, replicate, drop, ap, ◌∙◌, arith}
-use Rattle.std.proofs.lemmas.List.{drop-replicate}
+use Rattle.std.proofs.Common.{arith}
 use Rattle.rm_exchange.proofs.Rounds.{empty_rounds, empty_rivals}
 use Rattle.rm_exchange.proofs.tournament.Tournament.new.Goals as goal
 
