@@ -49,7 +49,7 @@ module _ (f : ℕ → ℕ) (r : Region) (ok : IsRegion r) (X : List ℕ) (sX : I
       (and_from (eqb (seat_at r j).hospital (f x)) (ltb (above f X x) (seat_at r j).target) (eq-eqb (seat_at r j).hospital (f x) e) h))
 
   -- the rank among the hospital's own contracts
-  above-rank : (x h : ℕ) → h ≡ f x → above f X x ≡ rank (filter (λ y. eqb (f y) h) X) x
+  pub above-rank : (x h : ℕ) → h ≡ f x → above f X x ≡ rank (filter (λ y. eqb (f y) h) X) x
   above-rank x h e = subst (λ z. count_by (λ y. eqb (f y) z && ltb y x) X ≡ rank (filter (λ y. eqb (f y) h) X) x) e (sym (count-filter (λ y. ltb y x) (λ y. eqb (f y) h) X))
 
   -- what is kept at a hospital

@@ -66,7 +66,7 @@ pub of_seat : (f : ℕ → ℕ) (r : Region) (x j : ℕ) → j < length r.seats 
 of_seat f r x j lt e = any_at (λ s. eqb s.hospital (f x)) r.seats no_seat j lt (eq-eqb (seat_at r j).hospital (f x) e)
 
 module _ (f : ℕ → ℕ) (r : Region) (ok : IsRegion r) (X : List ℕ) (sX : IsSet X) (inside : (x : ℕ) → IsIn x X → is_of f r x ≡ true) where
-  after_all : IsAfter f r X (greatest r * length r.seats) (keeps f r X)
+  pub after_all : IsAfter f r X (greatest r * length r.seats) (keeps f r X)
   after_all = rounds f r ok X sX (λ x i. seat_of f r x (inside x i)) (greatest r) (firsts f r X) (at_start f r ok X sX (λ x i. seat_of f r x (inside x i)) inside)
 
   pub keeps_is : IsKept f r X (keeps f r X)
@@ -197,17 +197,17 @@ module _ (b : Board) (regions : List Region) (n : ℕ) (ok : IsRegions n (hospit
   part : ℕ → List ℕ
   part i = filter (is_of (hospital_of b) (region_at regions i)) X
 
-  part_kept : (i : ℕ) → i < length regions → IsKept (hospital_of b) (region_at regions i) (filter (is_of (hospital_of b) (region_at regions i)) X) (kept b (region_at regions i) (in_region b (region_at regions i) X))
+  pub part_kept : (i : ℕ) → i < length regions → IsKept (hospital_of b) (region_at regions i) (filter (is_of (hospital_of b) (region_at regions i)) X) (kept b (region_at regions i) (in_region b (region_at regions i) X))
   part_kept i lt =
       let r = region_at regions i in
       IsKept-kept b r (filter (is_of (hospital_of b) r) X) (region_ok n (hospital_of b) regions ok i lt) (IsSet-filter (is_of (hospital_of b) r) X sX)
       (λ x h. (IsIn-from_filter (is_of (hospital_of b) r) X x h).1)
 
-  flexible_set : IsSet (flexible b regions X)
+  pub flexible_set : IsSet (flexible b regions X)
   unfolding flexible
   flexible_set = fold_set (λ r. kept b r (in_region b r X)) regions [] IsSet-nil
 
-  from_flexible : (x : ℕ) → IsIn x (flexible b regions X) → (i : ℕ) × (i < length regions) × IsIn x (kept b (region_at regions i) (in_region b (region_at regions i) X))
+  pub from_flexible : (x : ℕ) → IsIn x (flexible b regions X) → (i : ℕ) × (i < length regions) × IsIn x (kept b (region_at regions i) (in_region b (region_at regions i) X))
   unfolding flexible
   from_flexible x h = ⊎_elim (λ none. absurd (not_in_nil x none)) (λ t. t) (in_fold (λ r. kept b r (in_region b r X)) regions [] x h)
 
@@ -215,7 +215,7 @@ module _ (b : Board) (regions : List Region) (n : ℕ) (ok : IsRegions n (hospit
   unfolding flexible
   in_flexible x i lt h = fold_at (λ r. kept b r (in_region b r X)) regions [] x i lt h
 
-  flexible_part : (i : ℕ) → i < length regions → filter (is_of (hospital_of b) (region_at regions i)) (flexible b regions X) ≡ kept b (region_at regions i) (in_region b (region_at regions i) X)
+  pub flexible_part : (i : ℕ) → i < length regions → filter (is_of (hospital_of b) (region_at regions i)) (flexible b regions X) ≡ kept b (region_at regions i) (in_region b (region_at regions i) X)
   flexible_part i lt =
       let f = hospital_of b in
       let r = region_at regions i in
