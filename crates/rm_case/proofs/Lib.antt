@@ -4,6 +4,10 @@ mod FolderChecks
 mod Markets
 mod OfferRows
 mod OrderLemmas
+mod Regions
+mod RegionsEntries
+mod RegionsNodes
+mod RegionsSums
 mod Solved
 mod Titles
 mod Told

@@ -1,5 +1,5 @@
 -- The orders of prefectures, gathered entry by entry.
-use Rattle.std.proofs.Common.{◌≡◌, ◌≢◌, ◌∙◌, ◌+◌, ◌<◌, ◌≤◌, ◌==◌, ℕ, cond, ltb, List, [], ◌∷◌, ◌++◌, length, get_or, map, set, take, replicate, Option, Some, None, ◌⊎◌, inl, inr, refl, sym, ap, subst, arith, add-one}
+use Rattle.std.proofs.Common.{◌≡◌, ◌≢◌, ◌∙◌, ◌+◌, ◌<◌, ◌≤◌, ◌==◌, ℕ, cond, ltb, List, [], ◌∷◌, ◌++◌, length, get_or, map, set, take, replicate, Option, Some, None, ◌⊎◌, inl, inr, refl, sym, ap, arith, add-one}
 use Rattle.std.specs.Prelude.{option_and_then, slice_get, unwrap_or}
 use Rattle.std.specs.Str.{bytes_eq}
 use Rattle.std.proofs.lemmas.Bool.{cases_eq, cases_lt, ne_eqb, eq-eqb, lt-ltb, le-ltb}
@@ -17,6 +17,7 @@ use Rattle.rm_sets.proofs.Once.{get_or-below, length-below}
 use Rattle.rm_case.specs.Compiled.{entry_of_prefecture, order_of_prefecture}
 use Rattle.rm_case.specs.Suits.{SuitsRoster}
 use Rattle.rm_case.specs.NodeSteps.{with_order}
+use Rattle.rm_case.proofs.RegionsEntries.{entry_found}
 
 -- lists that are told by a function of their number
 pub long_map : (f : ℕ → List ℕ) (n : ℕ) → length (map f (below n)) ≡ n
@@ -84,14 +85,7 @@ names_prefecture r p q g roster lt e =
 
 -- and the prefecture of an entry's name has that entry
 has_entry : (r : RosterData) (p : PolicyData) (q g : ℕ) → IsPolicy p → SuitsRoster r p → g < length p.orders → place_of r.prefectures (get_or p.groups.names g []) ≡ Some q → entry_of_prefecture r p q ≡ Some g
-has_entry r p q g policy fits lt e =
-    let names = take (length p.orders) p.groups.names in
-    let name = get_or p.groups.names g [] in
-    let at = position-Some (bytes_eq name) r.prefectures q [] e in
-    let same : name ≡ get_or r.prefectures q [] = (bytes_eq-Decides name (get_or r.prefectures q [])).0 at.1 in
-    let inside : g < length names = omega (arith, lt, length-take (length p.orders) p.groups.names, policy.names_each, policy.few_orders) in
-    let here : slice_get names g ≡ Some name = slice_get-get_or names g [] inside ∙ ap (λ (n : Text). Some n) (get_or-take (length p.orders) p.groups.names g [] lt) in
-    subst (λ (n : Text). place_of names n ≡ Some g) same (fits.entries.found g name here)
+has_entry r p q g policy fits lt e = entry_found r p q g fits.entries (omega (arith, policy.names_each, policy.few_orders)) lt e
 
 pub upto_all : (r : RosterData) (p : PolicyData) (g n : ℕ) → length p.orders ≤ g → map (order_upto r p g) (below n) ≡ map (order_of_prefecture r p) (below n)
 upto_all r p g n le = map_same (order_upto r p g) (order_of_prefecture r p) n (λ q lt. by q (entry_of_prefecture r p q) refl)
@@ -100,7 +94,7 @@ upto_all r p g n le = map_same (order_upto r p g) (order_of_prefecture r p) n (�
     by q None e = refl
     by q (Some k) e = rw (lt-ltb k g (omega (arith, le, (entry_named r p q k e).0))) refl
 
-some_same : (a b : ℕ) → Some a ≡ Some b → a ≡ b
+pub some_same : (a b : ℕ) → Some a ≡ Some b → a ≡ b
 some_same a b e = cc
 
 is_entry : (o : Option ℕ) (g : ℕ) → (o ≡ Some g) ⊎ (o ≡ Some g → ⊥)

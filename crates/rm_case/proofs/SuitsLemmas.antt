@@ -13,7 +13,7 @@ use Rattle.rm_base.specs.Checks.{check, checks_of, first_of}
 use Rattle.rm_base.specs.Names.{place_of, AreDistinct}
 use Rattle.rm_base.specs.Text.{Text}
 use Rattle.rm_base.specs.declared.Refusal.{Refusal}
-use Rattle.rm_base.specs.declared.codes.TheConstants.{REPEATED_ENTRY, WRONG_ORDER}
+use Rattle.rm_base.specs.declared.codes.TheConstants.{WRONG_ORDER}
 use Rattle.rm_base.proofs.CheckLemmas.{check-none, mapped-none, none-each, none-parts, passed}
 use Rattle.rm_base.proofs.NameLemmas.{distinct-more}
 use Rattle.rm_board.specs.ListedElements.{Names}
@@ -25,7 +25,7 @@ use Rattle.rm_policy.specs.Entries.{is_present, elements_at, name_of_entry, numb
 use Rattle.rm_policy.specs.Groups.{group_checks_after, group_name_checks, group_shape_checks, group_element_checks, groups_of, groups_named, hospitals_named, prefectures_named, no_groups, steps_of_group, with_group}
 use Rattle.rm_policy.specs.Hospitals.{found_hospital_checks, hospital_entry_checks, hospital_entry_checks_after, hospital_shape_checks, hospital_steps_of, steps_in, steps_of_hospital, entry_of_hospital as former_of}
 use Rattle.rm_policy.specs.Policy.{PolicyData, ReadsPolicy, listed_pairs, pair_numbered, plain, policy_checks, policy_of}
-use Rattle.rm_policy.specs.Prefectures.{fits, hospitals_in, is_missing, order_checks, order_element_checks, order_in as entry_order, prefecture_checks, prefecture_checks_after, prefecture_of_entry, prefecture_name_checks, prefecture_shape_checks, targets_check}
+use Rattle.rm_policy.specs.Prefectures.{fits, hospitals_in, is_missing, order_checks, order_element_checks, order_in as entry_order, prefecture_checks_after, prefecture_of_entry}
 use Rattle.rm_policy.specs.Steps.{cap_in, flat, run_refusal, runs_in, step_checks}
 use Rattle.rm_policy.specs.Top.{group_entries, hospital_entries, kind_in, prefecture_entries, top_checks}
 use Rattle.rm_policy.specs.Values.{pair, pairs, texts}
@@ -42,6 +42,7 @@ use Rattle.rm_steps.proofs.Accepted.{accepted-steps}
 use Rattle.rm_case.specs.Compiled.{entry_of_prefecture, order_of_prefecture}
 use Rattle.rm_case.specs.Suits.{SuitsRoster, IsOrderOf}
 use Rattle.rm_case.proofs.OrderLemmas.{entry_named, names_prefecture}
+use Rattle.rm_case.proofs.RegionsEntries.{entries_flexible, name_new, passes}
 
 abbrev Checks : Type 0
 Checks = List (Option Refusal)
@@ -116,33 +117,10 @@ steps_fall r ds h all = elim (cases_lt h (length r.hospitals)) [
 -- ---- entries of prefectures
 
 module _ (r : RosterData) (kind : Kind) where
-  -- the four parts of an entry's checks find nothing
-  name_new : (names : List Text) (d : Data) → first_of (prefecture_checks r kind names d) ≡ None → place_of names (name_of_entry d) ≡ None
-  name_new names d e =
-      let i = length names + 1 in
-      let p = prefecture_of_entry r d in
-      let shape = prefecture_shape_checks i d in
-      let name = prefecture_name_checks r.prefectures names i (name_of_entry d) in
-      let order = order_checks r i p (read_at texts key.Order d) in
-      let targets = targets_check r kind i p (cap_in d) ∷ [] in
-      let front = (none-parts (shape ++ name ++ order) targets e).0 in
-      let named = (none-parts shape name (none-parts (shape ++ name) order front).0).1 in
-      mapped-none (λ f. policy_refusal REPEATED_ENTRY i (f + 1)) (place_of names (name_of_entry d)) (none-each name named).1.0
-
-  order_passes : (names : List Text) (d : Data) → first_of (prefecture_checks r kind names d) ≡ None → first_of (order_checks r (length names + 1) (prefecture_of_entry r d) (read_at texts key.Order d)) ≡ None
-  order_passes names d e =
-      let i = length names + 1 in
-      let p = prefecture_of_entry r d in
-      let shape = prefecture_shape_checks i d in
-      let name = prefecture_name_checks r.prefectures names i (name_of_entry d) in
-      let order = order_checks r i p (read_at texts key.Order d) in
-      let targets = targets_check r kind i p (cap_in d) ∷ [] in
-      (none-parts (shape ++ name) order (none-parts (shape ++ name ++ order) targets e).0).1
-
   entries_apart : (ds : List Data) → first_of (checks_of (prefecture_checks_after r kind) ds) ≡ None → AreDistinct (map name_of_entry ds)
   entries_apart ds e =
       passed (prefecture_checks_after r kind) (λ before. AreDistinct (map name_of_entry before)) none_distinct
-      (λ before d all none. subst AreDistinct (sym (map-append name_of_entry before (d ∷ []))) (distinct-more (map name_of_entry before) (name_of_entry d) all (name_new (map name_of_entry before) d none)))
+      (λ before d all none. subst AreDistinct (sym (map-append name_of_entry before (d ∷ []))) (distinct-more (map name_of_entry before) (name_of_entry d) all (name_new r kind (map name_of_entry before) d (passes r kind (map name_of_entry before) d none))))
       ds e
     where
       none_distinct : AreDistinct []
@@ -236,7 +214,7 @@ entries_ordered r kind ds e =
     passed (prefecture_checks_after r kind) (All (HasOrder r)) (All-nil (HasOrder r))
     (λ before d all none.
     All-push (HasOrder r) before d all
-    (read_order r (length (map name_of_entry before) + 1) (prefecture_of_entry r d) (read_at texts key.Order d) (order_passes r kind (map name_of_entry before) d none)))
+    (read_order r (length (map name_of_entry before) + 1) (prefecture_of_entry r d) (read_at texts key.Order d) (passes r kind (map name_of_entry before) d none).order))
     ds e
 
 -- ---- listed pairs
@@ -277,6 +255,9 @@ module _ (r : RosterData) (d : Data) (roster : IsRoster r) (quiet : first_of (po
   abbrev of_hospitals : Checks
   of_hospitals = checks_of (hospital_entry_checks_after r (length ps + length gs)) hs
 
+  top_quiet : first_of (top_checks d) ≡ None
+  top_quiet = (none-parts (top_checks d) (of_prefectures ++ of_groups ++ of_hospitals) quiet).0
+
   entries_quiet : (first_of of_prefectures ≡ None) × (first_of of_groups ≡ None) × (first_of of_hospitals ≡ None)
   entries_quiet =
       let all = (none-parts (top_checks d) (of_prefectures ++ of_groups ++ of_hospitals) quiet).1 in
@@ -310,14 +291,18 @@ module _ (r : RosterData) (d : Data) (roster : IsRoster r) (quiet : first_of (po
           let own : prefecture_of_entry r entry ≡ q = ap (λ (o : Option ℕ). unwrap_or o 0) (ap (λ (n : Text). place_of r.prefectures n) (sym name) ∙ placed) in
           given (prefecture_of_entry r entry) (get_or policy.orders g None) own (subst (λ o. IfSome o (IsOrderOf r (prefecture_of_entry r entry))) (sym at) (All-get_or (HasOrder r) ps g d lg (entries_ordered r (kind_in d) ps entries_quiet.0)))
 
+  apart : AreDistinct (take (length policy.orders) policy.groups.names)
+  apart = subst AreDistinct (sym names_are) (entries_apart r (kind_in d) ps entries_quiet.0)
+
   fits_policy : SuitsRoster r policy
   fits_policy = record {
     groups = groups-are-sets r d;
     group_steps = All-append IsFalling (map (λ e. flat (cap_in e)) ps) (groups_of r gs).steps (prefectures_fall ps) (groups_fall r (length ps) gs entries_quiet.1);
     hospital_steps = λ h. steps_fall r hs h (hospitals_fall r (length ps + length gs) hs entries_quiet.2);
-    entries = subst AreDistinct (sym names_are) (entries_apart r (kind_in d) ps entries_quiet.0);
+    entries = apart;
     orders = ordered;
     listed = pairs_known r (elements_at pairs key.Listed d);
+    flexible = λ flexible. entries_flexible r d top_quiet entries_quiet.0 flexible apart;
   }
 
 -- ---- what a policy that was read for a roster is, and what the plain policy is
@@ -336,4 +321,5 @@ fits_plain r = record {
   entries = record { found = λ n name e. absurd (cc e) };
   orders = λ q lt. own_order r q;
   listed = All-nil (Names (length r.hospitals));
+  flexible = λ flexible. absurd (cc flexible);
 }

@@ -1,34 +1,17 @@
 -- The titles of nodes.
-use Rattle.std.proofs.Common.{◌≡◌, ◌<◌, ◌≤◌, ◌+◌, ◌-◌, ℕ, suc, List, [], ◌∷◌, length, ap, refl, Some, arith, length-append}
-use Rattle.std.specs.Prelude.{ℤ, slice_get}
+use Rattle.std.proofs.Common.{◌≡◌, ◌<◌, ◌≤◌, ◌+◌, ◌-◌, ℕ, [], length, refl, Some, arith}
+use Rattle.std.specs.Prelude.{slice_get}
 use Rattle.std.proofs.lemmas.Bool.{lt-ltb, le-ltb}
-use Rattle.std.proofs.lemmas.List.{length-map}
 use Rattle.std.proofs.lemmas.Option.{get_or_from_slice_get}
 use Rattle.rm_base.specs.Text.{Text}
-use Rattle.rm_sets.proofs.Once.{length-below}
-use Rattle.rm_market.specs.Board.{Node}
-use Rattle.rm_market.specs.Tree.{below}
-use Rattle.rm_board_laws.specs.HospitalBoards.{hospital_nodes, group_nodes}
-use Rattle.rm_case.specs.Compiled.{compiled_board, compiled_steps}
+use Rattle.rm_case.specs.Compiled.{compiled_board}
 use Rattle.rm_case.specs.Case.{CaseData, IsCase, market, hospital, prefecture, group, title_of}
-
-groups-each : (sets : List (List ℕ)) (steps : List (List ℤ)) → length steps ≡ length sets → length (group_nodes sets steps) ≡ length sets
-groups-each [] steps e = refl
-groups-each (set ∷ sets) [] e = absurd (omega (arith, e))
-groups-each (set ∷ sets) (s ∷ steps) e = ap suc (groups-each sets steps (omega (arith, e)))
+use Rattle.rm_case.proofs.RegionsNodes.{nodes_long}
 
 -- a node for each hospital and for each group
 pub nodes-each : (c : CaseData) → IsCase c → length (market c).board.nodes ≡ length c.roster.hospitals + length c.policy.groups.members
 unfolding compiled_board
-nodes-each c is =
-    omega (
-      arith,
-      length-append (hospital_nodes (length c.roster.ranks) (compiled_steps c.roster c.policy)) (group_nodes c.policy.groups.members c.policy.groups.steps),
-      length-map {B = Node} (below (length c.roster.ranks)) (λ h. record { leaves = h ∷ []; steps = compiled_steps c.roster c.policy h }),
-      length-below (length c.roster.ranks),
-      groups-each c.policy.groups.members c.policy.groups.steps is.policy.steps_each,
-      is.roster.rank_each,
-    )
+nodes-each c is = omega (arith, nodes_long c.roster c.policy is.policy, is.roster.rank_each)
 
 -- a node past the hospitals is a group
 pub group-numbered : (c : CaseData) (k h : ℕ) → IsCase c → k < length (market c).board.nodes → h ≡ length c.roster.hospitals → h ≤ k → k - h < length c.policy.groups.members

@@ -138,7 +138,7 @@ worth_fits r order greatest roster some few = product (length order) greatest (o
 
 -- ---- the steps of a turn are those of the region's seat
 
-find_seat : (r : RosterData) (order : List ℕ) (n k : ℕ) → IsDistinct eqb order → k < length order
+pub find_seat : (r : RosterData) (order : List ℕ) (n k : ℕ) → IsDistinct eqb order → k < length order
     → find (λ e. e.1.hospital == get_or order k 0) (enumerate_from n (map (seat_of r) order)) ≡ Some (n + k, seat_of r (get_or order k 0))
 find_seat r [] n k once lt = absurd (omega (arith, lt))
 find_seat r (y ∷ order) n zero once lt = rw (eq-eqb y y refl) (ap (λ (i : ℕ). Some (i, seat_of r y)) (omega arith))

@@ -1,7 +1,6 @@
 -- The market of a folder, or the first refusal of its files.
 use Rattle.std.specs.Prelude.{◌≡◌, ℕ, ◌+◌, ◌-◌, nat_lt, List, [], ◌∷◌, ◌++◌, length, get_or, Option, Some, None, Result, Ok, Err, option_map, option_and_then, if◌then◌else◌}
 use Rattle.std.specs.Option.{option_map_or}
-use Rattle.toml.specs.Data.{Data}
 use Rattle.rm_base.specs.Checks.{check, first_of}
 use Rattle.rm_base.specs.Codes.{refuse}
 use Rattle.rm_base.specs.Text.{Text, Files}
@@ -23,6 +22,8 @@ use Rattle.rm_policy.specs.declared.Ties.{Ties}
 use Rattle.rm_policy.specs.declared.Ties.TheVariants as ties
 use Rattle.rm_case.specs.Folder.{Folder, folder_of, file_checks, rows_in, folder_roster}
 use Rattle.rm_case.specs.Compiled.{compiled_board, regions_of}
+use Rattle.rm_case.specs.Regions.{RegionsAreCompiled}
+use Rattle.rm_case.specs.Suits.{SuitsRoster}
 use Rattle.rm_case.specs.declared.case.NodeName.{NodeName}
 use Rattle.rm_case.specs.declared.case.NodeName.TheVariants as name
 
@@ -106,11 +107,13 @@ or_refused (Some refusal) x = Err refusal
 abbrev pub market_of : Files → Text → Result CaseData Refusal
 market_of files F = or_refused (folder_refusal (folder_of files F)) (case_of (folder_of files F))
 
--- what holds of every case: a roster, a policy, and a well-formed market
+-- what holds of every case: a roster, a policy for its hospitals, and a well-formed market, which the regions make if there are any
 pub record IsCase (c : CaseData) : Type 0 where
   pub roster : IsRoster c.roster
   pub policy : IsPolicy c.policy
+  pub suits : SuitsRoster c.roster c.policy
   pub market : IsMarket (market c)
+  pub regions : RegionsAreCompiled c.roster c.policy
 
 -- what is kept with a case: its board and the doctors' listed contracts
 pub record IsCaseKept (c : CaseData) (b : Board) (lists : List (List ℕ)) : Type 0 where

@@ -1,5 +1,5 @@
 -- What fetching the files of a folder answers.
-use Rattle.std.specs.Prelude.{◌≡◌, ℕ, Option, Some, Result, Ok, Err}
+use Rattle.std.specs.Prelude.{ℕ, Option, Result, Ok, Err}
 use Rattle.rm_base.specs.Text.{Text}
 use Rattle.rm_base.specs.declared.codes.TheConstants.{MOST_BYTES}
 use Rattle.rm_outside.specs.Outside.{Tells}

@@ -1,8 +1,10 @@
 pub mod Folder
 pub mod Compiled
-pub mod Case
-pub mod Parts
 pub mod Suits
+pub mod Regions
+pub mod Case
+pub mod Faults
+pub mod Parts
 pub mod NodeSteps
 pub mod Loading
 pub mod Fetching

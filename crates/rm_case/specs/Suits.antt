@@ -1,29 +1,32 @@
--- What is needed of a policy for a roster, so that the two make a board, and the refusals of its groups and of its tie order.
+-- What is needed of a policy for a roster, so that the two make a board.
 use Rattle.std.specs.List.{IsDistinct}
-use Rattle.std.specs.Prelude.{◌≡◌, ◌==◌, ℕ, ◌<◌, List, length, take, get_or, None, IfSome, All}
+use Rattle.std.specs.Prelude.{◌≡◌, ◌==◌, ℕ, ◌<◌, ◌≤◌, true, List, [], length, take, get_or, Some, None, IfSome, All}
 use Rattle.rm_base.specs.Names.{AreDistinct}
-use Rattle.rm_base.specs.declared.ReadFault.{ReadFault}
-use Rattle.rm_base.specs.declared.ReadFault.TheVariants as fault
 use Rattle.rm_board.specs.ListedElements.{Names}
 use Rattle.rm_board.specs.declared.ties.TieRule.{TieRule}
 use Rattle.rm_board.specs.declared.ties.TieRule.TheVariants as rule
 use Rattle.rm_market.specs.Board.{IsFalling}
-use Rattle.rm_market.specs.declared.TreeFault.{TreeFault}
-use Rattle.rm_market.specs.declared.TreeFault.TheVariants as tree
-use Rattle.rm_market.specs.declared.BoardFault.{BoardFault}
-use Rattle.rm_market.specs.declared.BoardFault.TheVariants as board
 use Rattle.rm_sets.specs.Sets.{has, IsSetBelow}
 use Rattle.rm_policy.specs.Policy.{PolicyData}
-use Rattle.rm_policy.specs.Prefectures.{hospitals_in}
+use Rattle.rm_policy.specs.Prefectures.{hospitals_in, targets_of}
+use Rattle.rm_policy.specs.Steps.{flat}
+use Rattle.rm_policy.specs.Top.{is_flexible}
 use Rattle.rm_policy.specs.declared.Ties.TheVariants as ties
 use Rattle.rm_roster.specs.Roster.{RosterData}
-use Rattle.rm_case.specs.Compiled.{order_of_prefecture}
-use Rattle.rm_case.specs.Case.{tree_refusal, ties_refusal}
+use Rattle.rm_case.specs.Compiled.{cap_of_prefecture, entry_of_prefecture, order_of_prefecture}
 
 -- an order of the hospitals of prefecture q, each once
 pub record IsOrderOf (r : RosterData) (q : ℕ) (order : List ℕ) : Type 0 where
   pub once : IsDistinct ◌==◌ order
   pub hospitals : (h : ℕ) → has h order ≡ has h (hospitals_in r q)
+
+-- group g is the entry of prefecture q: its hospitals, and as many steps of 0 as its cap, which has room for their targets
+pub record IsEntryOf (r : RosterData) (p : PolicyData) (q g : ℕ) : Type 0 where
+  pub prefecture : q < length r.prefectures
+  pub entry : entry_of_prefecture r p q ≡ Some g
+  pub hospitals : get_or p.groups.members g [] ≡ hospitals_in r q
+  pub steps : get_or p.groups.steps g [] ≡ flat (cap_of_prefecture r p q)
+  pub targets : targets_of r q ≤ cap_of_prefecture r p q
 
 -- a policy for the hospitals of a roster
 pub record SuitsRoster (r : RosterData) (p : PolicyData) : Type 0 where
@@ -38,21 +41,8 @@ pub record SuitsRoster (r : RosterData) (p : PolicyData) : Type 0 where
   pub orders : (q : ℕ) → q < length r.prefectures → IsOrderOf r q (order_of_prefecture r p q)
   -- each hospital that a listed tie order names is one of the roster's
   pub listed : All (Names (length r.hospitals)) p.listed
-
--- why groups make no tree, as a fault of reading
-abbrev pub tree_read_fault : TreeFault → ReadFault
-tree_read_fault tree.NoMemory = fault.NoMemory
-tree_read_fault (tree.Empty b) = fault.Refused (tree_refusal (tree.Empty b))
-tree_read_fault (tree.Crossing a b both only_a only_b) = fault.Refused (tree_refusal (tree.Crossing a b both only_a only_b))
-tree_read_fault (tree.Deep b) = fault.Refused (tree_refusal (tree.Deep b))
-
--- why a listed order is none, as a fault of reading
-abbrev pub ties_read_fault : BoardFault → ReadFault
-ties_read_fault board.NoMemory = fault.NoMemory
-ties_read_fault (board.Unknown e) = fault.Refused (ties_refusal (board.Unknown e))
-ties_read_fault (board.Repeated e f) = fault.Refused (ties_refusal (board.Repeated e f))
-ties_read_fault (board.AgainstRank e f) = fault.Refused (ties_refusal (board.AgainstRank e f))
-ties_read_fault (board.Missing d h) = fault.Refused (ties_refusal (board.Missing d h))
+  -- with a flexible policy each group is the entry of a prefecture
+  pub flexible : is_flexible p.kind ≡ true → (g : ℕ) → g < length p.groups.members → (q : ℕ) × IsEntryOf r p q g
 
 -- the rule of a policy's ties
 abbrev pub IsRuleOf : PolicyData → TieRule → Type 0

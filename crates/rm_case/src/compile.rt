@@ -6,7 +6,8 @@ ghost use Rattle.rm_base.specs.Codes.{refuse};
 ghost use Rattle.rm_base.specs.Reading.{Reads};
 ghost use Rattle.rm_case.specs.Case.{IsCase, board_checks};
 ghost use Rattle.rm_case.specs.Compiled.{compiled_board};
-ghost use Rattle.rm_case.specs.Suits.{SuitsRoster, tree_read_fault, ties_read_fault, IsRuleOf};
+ghost use Rattle.rm_case.specs.Faults.{tree_read_fault, ties_read_fault};
+ghost use Rattle.rm_case.specs.Suits.{SuitsRoster, IsRuleOf};
 
 use crate::node_steps::node_steps;
 use rm_base::codes::{

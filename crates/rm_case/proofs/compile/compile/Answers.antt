@@ -1,6 +1,7 @@
 use Rattle.std.proofs.Common.{◌∙◌, ap, length}
 use Rattle.rm_case.proofs.BoardLemmas.{board_made, group_sets}
 use Rattle.rm_case.proofs.Markets.{market_made}
+use Rattle.rm_case.proofs.Regions.{regions_are_compiled}
 use Rattle.rm_case.proofs.compile.compile.Goals as goal
 
 pub build-requires-clause-sets : goal.build-requires-clause-sets
@@ -20,5 +21,7 @@ returns-in-Ok-build-clause-case c =
     record {
       roster = c.hospitals.ensures.roster;
       policy = c.groups.ensures.policy;
+      suits = c.requires;
       market = market_made c.args.roster.now c.args.policy.now c.hospitals.ensures.roster c.requires (returns-in-Ok-build-clause-board c).0;
+      regions = regions_are_compiled c.args.roster.now c.args.policy.now c.hospitals.ensures.roster c.groups.ensures.policy c.requires;
     }

@@ -1,4 +1,3 @@
-use Rattle.std.proofs.Common.{◌-◌}
 use Rattle.rm_case.proofs.Titles.{group-numbered, title-hospital, title-prefecture, title-group}
 use Rattle.rm_case.proofs.case.Case.node_name.Goals as goal
 
