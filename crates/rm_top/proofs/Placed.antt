@@ -1,0 +1,43 @@
+-- What is promised of a placement, by the laws of markets and of the flexible procedure.
+use Rattle.std.proofs.Common.{◌≡◌, ℕ, List, Option, IsTrue}
+use Rattle.rm_base.specs.Text.{Text}
+use Rattle.rm_market.specs.Board.{is_feasible}
+use Rattle.rm_market.specs.Flexible.{Region, flexible}
+use Rattle.rm_market.specs.Market.{Market, IsMarket, IsPlacementOf}
+use Rattle.rm_market_laws.specs.Results.{ChoosesBest, IsTruthfulIn}
+use Rattle.rm_market_laws.proofs.Market.{same_in, truthful_in, runs_well_in, runs_close_in}
+use Rattle.rm_flexible_laws.proofs.Procedure.{chooses_best}
+use Rattle.rm_case.specs.Case.{CaseData, IsCase, market, regions}
+use Rattle.rm_case.specs.Regions.{AreRegionsOf}
+use Rattle.rm_case.specs.Solving.{IsSolved}
+use Rattle.rm_report.specs.Texts.{placement_text}
+use Rattle.rm_top.specs.Answers.{IsPlacementText}
+use Rattle.rm_top.specs.Headline.{NobodyGains, PlacesTheSame, procedure_after, EndsIn, IsPlaced}
+
+nobody_gains : (m : Market) (S : List ℕ) → IsMarket m → IsPlacementOf m S → NobodyGains m S
+nobody_gains m S ok is =
+    let law : IsTruthfulIn m = truthful_in m ok in
+    record { exists = law.exists; no_gain = λ d list T lt l t. law.no_gain d list S T lt l is t }
+
+places_the_same : (m : Market) (S : List ℕ) → IsMarket m → IsPlacementOf m S → PlacesTheSame m S
+places_the_same m S ok is T d t = same_in m ok T S d t is.optimal.stable
+
+ends_in : (m : Market) (regions : List Region) (S : List ℕ) → IsMarket m → AreRegionsOf m.board regions → IsPlacementOf m S → EndsIn m regions S
+ends_in m regions S ok are is =
+    let best : ChoosesBest m (flexible m.board regions) = chooses_best m regions ok are.lawful are.compiled in
+    record {
+      goes_on = runs_close_in m ok (flexible m.board regions) best;
+      ends = λ ds ended. is.only (procedure_after m regions ds).held ((runs_well_in m ok (flexible m.board regions) best).closed ds ended).optimal;
+    }
+
+placed : (c : CaseData) (S : List ℕ) → IsCase c → IsTrue (is_feasible (market c).board S) → IsPlacementOf (market c) S → IsPlaced c S
+placed c S case feasible is = record {
+  feasible = feasible;
+  placement = is;
+  truthful = nobody_gains (market c) S case.market is;
+  same = places_the_same (market c) S case.market is;
+  flexible = λ kind. ends_in (market c) (regions c) S case.market (case.regions kind) is;
+}
+
+pub placed_text : (c : CaseData) (hospitals : List (Option ℕ)) (text : Text) → IsCase c → IsSolved c hospitals → text ≡ placement_text c hospitals → IsPlacementText c text
+placed_text c hospitals text case solved is = (solved.set, placed c solved.set case solved.feasible solved.placement, rw solved.places at is)
