@@ -19,7 +19,7 @@ use Rattle.rm_matching_laws.proofs.Runs.{IsSetBelow-offered}
 use Rattle.rm_matching_laws.proofs.ClosedRuns.{more_offered, nobody_closed, closed_cannot}
 use Rattle.rm_matching_laws.proofs.Tests.{outcome_is}
 use Rattle.rm_matching_laws.proofs.EveryChoice.{every_choice}
-use Rattle.rm_rounds.specs.Desk.{DeskTold, IsDesk, wishes, state, desk_state, Settles, going_on, left, one_if_some}
+use Rattle.rm_rounds.specs.Desk.{DeskTold, IsDesk, wishes, state, desk_state, Leads, Settles, going_on, left, one_if_some}
 use Rattle.rm_rounds.proofs.Turns.{desk_lawful, desk_reached, next_none, next_some, past, own, offered_below, offered_new, held_set, held_own, held_below, moved_turn}
 
 -- a doctor who can't offer still can't, where he is held if he was, and has offered no more
@@ -63,9 +63,15 @@ put_out (turns.Moved x out.Refused) = None
 put_out (turns.Moved x (out.Swapped z)) = Some z
 
 -- one run after another
-pub run_on : (C : List ℕ → List ℕ) (w : Wishes) (ds es : List ℕ) (r s t : State) → s ≡ run C w r ds → t ≡ run C w s es → t ≡ run C w r (ds ++ es)
+run_on : (C : List ℕ → List ℕ) (w : Wishes) (ds es : List ℕ) (r s t : State) → s ≡ run C w r ds → t ≡ run C w s es → t ≡ run C w r (ds ++ es)
 run_on C w [] es r s t e f = f ∙ ap (λ u. run C w u es) e
 run_on C w (d ∷ ds) es r s t e f = run_on C w ds es (after_turn C w r d) s t e f
+
+-- the same of what is equal to the choice and the wishes
+pub leads_on : (C D : List ℕ → List ℕ) (w v : Wishes) (r s t : State) → D ≡ C → v ≡ w → Leads C w r s → Leads D v s t → Leads C w r t
+leads_on C D w v r s t same_choice same_wishes first other =
+    let second : Leads C w s t = subst (λ F. Leads F w s t) same_choice (subst (λ u. Leads D u s t) same_wishes other) in
+    (first.0 ++ second.0, run_on C w first.0 second.0 r s t first.1 second.1)
 
 pub settles_same : (C D : List ℕ → List ℕ) (w v : Wishes) (next : Option ℕ) (d : ℕ) (s t : State) → D ≡ C → v ≡ w → Settles D v next d s t → Settles C w next d s t
 settles_same C D w v next d s t same_choice same_wishes other = subst (λ F. Settles F w next d s t) same_choice (subst (λ u. Settles D u next d s t) same_wishes other)
@@ -75,7 +81,7 @@ pub settles_more : (C D : List ℕ → List ℕ) (w v : Wishes) (d e : ℕ) (las
 settles_more C D w v d e last next r s t is same_choice same_wishes first other =
     let second : Settles C w next e s t = settles_same C D w v next e s t same_choice same_wishes other in
     record {
-      reached = (first.reached.0 ++ second.reached.0, run_on C w first.reached.0 second.reached.0 r s t first.reached.1 second.reached.1);
+      reached = leads_on C D w v r s t same_choice same_wishes first.reached other.reached;
       settled = λ f ne h. ⊎_elim
           (λ same. second.settled f ne (inl same))
           (λ other. second.settled f ne (inr (first.settled f (λ k. other (some_same f e (k ∙ is))) h)))
@@ -162,7 +168,7 @@ module _ (n : ℕ) (C : List ℕ → List ℕ) (w : Wishes) (s : State) (places 
       offer_turn_of : turn_of C w s d ≡ turns.Moved (get_or (list_of w d) (get_or s.spent d 0) 0) (outcome_of s.held (get_or (list_of w d) (get_or s.spent d 0) 0) (C (with_one s.held (get_or (list_of w d) (get_or s.spent d 0) 0))))
       offer_turn_of = moved_turn C s (next_offer w s d) (is_placed w s d) (get_or (list_of w d) (get_or s.spent d 0) 0) offer_next
 
-      offer_reached : (ds : List ℕ) × (offered C s d (get_or (list_of w d) (get_or s.spent d 0) 0) ≡ run C w s ds)
+      offer_reached : Leads C w s (offered C s d (get_or (list_of w d) (get_or s.spent d 0) 0))
       offer_reached = (d ∷ [], sym offer_after)
 
       -- another doctor, whose held contract stays held

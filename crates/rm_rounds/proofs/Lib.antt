@@ -1,3 +1,4 @@
 pub mod Doctors
 pub mod Turns
 pub mod Closing
+pub mod OnePost

@@ -62,7 +62,11 @@ abbrev pub one_if_some : Option ℕ → ℕ
 one_if_some None = 0
 one_if_some (Some e) = 1
 
+-- turns lead from s to t
+abbrev pub Leads : (List ℕ → List ℕ) → Wishes → State → State → Type 0
+Leads chosen w s t = (ds : List ℕ) × (t ≡ run chosen w s ds)
+
 -- turns lead from s to t, where d, and each doctor who can't offer in s, can't offer, but for the one who is to go on
 pub record Settles (chosen : List ℕ → List ℕ) (w : Wishes) (next : Option ℕ) (d : ℕ) (s t : State) : Type 0 where
-  pub reached : (ds : List ℕ) × (t ≡ run chosen w s ds)
+  pub reached : Leads chosen w s t
   pub settled : (e : ℕ) → Some e ≢ next → (e ≡ d) ⊎ (next_offer w s e ≡ None) → next_offer w t e ≡ None

@@ -5,7 +5,7 @@ ghost use Rattle.rm_sets.specs.Sets.{IsIn};
 ghost use Rattle.rm_market.specs.Stable.{at, IsStable, IsOnlyOptimal, Takes};
 ghost use Rattle.rm_market.specs.Machine.{start, next_offer, after_turn, turn_of, run, IsClosed, offered_so_far};
 ghost use Rattle.rm_market.specs.Laws.{AreWishes};
-ghost use Rattle.rm_rounds.specs.Desk.{wishes, desk_state, Settles, left, one_if_some};
+ghost use Rattle.rm_rounds.specs.Desk.{wishes, desk_state, Leads, Settles, left, one_if_some};
 
 use crate::NoMemory;
 use crate::turn::{Doctor, doctor_to_go_on, has_offer, take_turn};
@@ -14,6 +14,10 @@ use rm_market::Turn;
 use rm_ranks::Lists;
 use std::alloc::Global;
 use std::marker::Model;
+
+// How many sweeps the doctors make before displaced ones are followed one by one. A sweep reads lists and doctors in the order of
+// memory, but looks at every doctor; after so many, few are left to follow.
+const SWEEPS: u32 = 8;
 
 /// The doctors' lists of contracts, how far each doctor has come, and the holder to which they offer.
 #[derive(Drop)]
@@ -90,7 +94,11 @@ impl<'a, H: Holder> Desk<'a, H> {
         ensures wishes { self.new.wishes ≡ self.old.wishes }
         ensures chosen { H.chosen self.new.holder ≡ H.chosen self.old.holder }
     {
-        for d in 0..self.listed.len() {
+        let doctors = self.listed.len();
+        for _ in 0..SWEEPS {
+            self.sweep();
+        }
+        for d in 0..doctors {
             self.settle(d);
         }
     }
@@ -125,6 +133,31 @@ impl<'a, H: Holder> Desk<'a, H> {
         ensures { result ≡ is_some (next_offer self.now.wishes (desk_state H.held self.now) d) }
     {
         has_offer(self.listed, &self.doctors, d)
+    }
+
+    // Lets each doctor in order offer until he is held or has offered all. Displaced doctors wait for their next sweep.
+    fn sweep(&mut self)
+        ensures reached { Leads (H.chosen self.old.holder) self.old.wishes (desk_state H.held self.old) (desk_state H.held self.new) }
+        ensures wishes { self.new.wishes ≡ self.old.wishes }
+        ensures chosen { H.chosen self.new.holder ≡ H.chosen self.old.holder }
+    {
+        for d in 0..self.listed.len() {
+            self.offer_until_held(d);
+        }
+    }
+
+    // Lets d offer until he is held or has offered all. A doctor whom he displaces isn't followed.
+    fn offer_until_held(&mut self, d: u32)
+        requires doctor { d < length self.old.wishes.listed }
+        ensures reached { Leads (H.chosen self.old.holder) self.old.wishes (desk_state H.held self.old) (desk_state H.held self.new) }
+        ensures settled { next_offer self.old.wishes (desk_state H.held self.new) d ≡ None }
+        ensures wishes { self.new.wishes ≡ self.old.wishes }
+        ensures chosen { H.chosen self.new.holder ≡ H.chosen self.old.holder }
+    {
+        let mut next = Some(d);
+        while next == Some(d) {
+            next = self.advance(d);
+        }
     }
 
     // Lets d offer until he is held or has offered all, and so each doctor who is put out.

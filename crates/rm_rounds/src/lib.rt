@@ -9,3 +9,6 @@ pub use rm_market::Turn;
 
 /// The want of memory.
 pub type NoMemory = std::alloc::AllocError;
+
+#[cfg(test)]
+mod tests;

@@ -1,7 +1,16 @@
-use Rattle.std.proofs.Common.{◌∙◌, ◌++◌, ap, length, arith}
-use Rattle.rm_rounds.specs.Desk.{desk_state}
-use Rattle.rm_rounds.proofs.Closing.{told_desk, settles_same, run_on, one_more_settled, closed_later, optimal_later}
+use Rattle.std.proofs.Common.{◌∙◌, ap, length, arith}
+use Rattle.rm_rounds.proofs.Closing.{told_desk, leads_on, settles_same, one_more_settled, closed_later, optimal_later}
 use Rattle.rm_rounds.proofs.desk.Desk.close_all.Goals as goal
+
+pub loop-preserved : goal.loop-preserved
+loop-preserved g c =
+    let inv = c.loop.invariant in
+    let did = c.sweep.ensures in
+    record {
+      reached = leads_on _ _ _ _ _ _ _ inv.chosen inv.wishes inv.reached did.reached;
+      wishes = did.wishes ∙ inv.wishes;
+      chosen = did.chosen ∙ inv.chosen;
+    }
 
 pub loop-d-preserved : goal.loop-d-preserved
 loop-d-preserved g c =
@@ -9,11 +18,7 @@ loop-d-preserved g c =
     let did = c.settle.ensures in
     let more = settles_same _ _ _ _ _ _ _ _ inv.chosen inv.wishes did.settled in
     record {
-      reached = (
-        inv.reached.0 ++ more.reached.0,
-        run_on (g.H.Holder.chosen c.args.self.now.holder) c.args.self.now.wishes inv.reached.0 more.reached.0
-            (desk_state g.H.Holder.held c.args.self.now) (desk_state g.H.Holder.held c.loop-d.self) (desk_state g.H.Holder.held c.settle.new.self) inv.reached.1 more.reached.1,
-      );
+      reached = leads_on _ _ _ _ _ _ _ inv.chosen inv.wishes inv.reached did.settled.reached;
       settled = one_more_settled _ _ c.loop-d.d _ _ more inv.settled;
       wishes = did.wishes ∙ inv.wishes;
       chosen = did.chosen ∙ inv.chosen;
@@ -24,7 +29,7 @@ returns-clause-closed g c =
     let desk = told_desk g.H.Holder.count g.H.Holder.chosen g.H.Holder.held c.args.self.now _ _ _ _ _ c.self.view_is c.self.invariant in
     let law = g.met.H.Holder.lawful c.args.self.now.holder in
     let f = ap (λ k. length k.wishes.listed) c.self.view_is in
-    let len = c.len-d-end.ensures in
+    let len = c.len-doctors.ensures in
     let inv = c.loop-d.invariant in
     closed_later _ _ _ _ _ law desk _ inv.reached.0 inv.reached.1 _ _ inv.chosen inv.wishes (λ d lt. inv.settled d (omega (arith, lt, f, len)))
 
@@ -33,6 +38,6 @@ returns-clause-optimal g c =
     let desk = told_desk g.H.Holder.count g.H.Holder.chosen g.H.Holder.held c.args.self.now _ _ _ _ _ c.self.view_is c.self.invariant in
     let law = g.met.H.Holder.lawful c.args.self.now.holder in
     let f = ap (λ k. length k.wishes.listed) c.self.view_is in
-    let len = c.len-d-end.ensures in
+    let len = c.len-doctors.ensures in
     let inv = c.loop-d.invariant in
     optimal_later _ _ _ _ _ law desk _ inv.reached.0 inv.reached.1 _ _ inv.chosen inv.wishes (λ d lt. inv.settled d (omega (arith, lt, f, len)))
