@@ -1,12 +1,12 @@
 -- Each group of a policy is a set of hospitals of the roster.
-use Rattle.std.proofs.Common.{◌≡◌, ◌==◌, ℕ, List, [], ◌∷◌, ◌++◌, length, map, fold, All}
+use Rattle.std.proofs.Common.{◌==◌, ℕ, List, [], ◌∷◌, length, map, fold, All}
 use Rattle.std.specs.Prelude.{slice_index}
 use Rattle.std.proofs.lemmas.List.Elements.{All-cons, All-append, All-push, All-nil}
 use Rattle.toml.specs.Data.{Data}
 use Rattle.rm_sets.specs.Sets.{IsSetBelow}
 use Rattle.rm_sets.proofs.Sets.{IsSetBelow-all_below}
 use Rattle.rm_roster.specs.Roster.{RosterData}
-use Rattle.rm_policy.specs.Groups.{GroupsData, groups_of, is_member, members_of_group, no_groups, prefectures_of, with_group}
+use Rattle.rm_policy.specs.Groups.{GroupsData, groups_of, is_member, members_of_group, no_groups, with_group}
 use Rattle.rm_policy.specs.Policy.{policy_of}
 use Rattle.rm_policy.specs.Prefectures.{members_of_prefecture, prefecture_of_entry}
 use Rattle.rm_policy.specs.Top.{group_entries, prefecture_entries}

@@ -1,14 +1,22 @@
 -- Sets of numbers that are gathered in a loop.
-use Rattle.std.proofs.Common.{◌≡◌, ◌∙◌, ◌+◌, ◌<◌, ◌≤◌, ◌==◌, ◌||◌, zero, suc, ℕ, Bool, true, false, cond, List, [], ◌∷◌, ◌++◌, length, take, drop, get_or, set, replicate, refl, ap, sym, arith, add-one, inl, inr}
+use Rattle.std.proofs.Common.{◌≡◌, ◌∙◌, ◌+◌, ◌*◌, ◌<◌, ◌≤◌, ◌==◌, ◌||◌, ◌&&◌, ℕ, Bool, cond, List, [], ◌∷◌, ◌++◌, length, take, get_or, refl, ap, sym, subst, arith, add-one, inl, inr, ⊎_elim, eqb, nat_lt, nat_cmp}
 use Rattle.std.specs.Prelude.{sum_by}
-use Rattle.std.specs.List.{list_any}
-use Rattle.std.proofs.lemmas.Bool.{cases_eq, ne_eqb, eq-eqb}
-use Rattle.std.proofs.lemmas.List.{take_all, drop_all, append-nil, length-set, length-replicate, get_or-replicate, get_or-set_same, get_or-set_other}
+use Rattle.std.specs.List.{list_any, dedup}
+use Rattle.std.specs.List.Sorted.{IsSorted, IsPermutation}
+use Rattle.std.specs.List.Retain.{IsFiltered, DiffersFromLast}
+use Rattle.std.proofs.Math.Bool.{or-false, and-false, or_assoc, and-or_distrib_left}
+use Rattle.std.proofs.lemmas.Bool.{cases_eq, ne_eqb, eq-eqb, lt-ltb, le-ltb, ltb-true, or_cases, and_parts}
+use Rattle.std.proofs.lemmas.List.Filters.{dedup_is}
 use Rattle.std.proofs.lemmas.List.Folds.{list_any_more}
+use Rattle.std.proofs.lemmas.List.Kept.{Contains-dedup_nat, Contains-from_dedup}
+use Rattle.std.proofs.lemmas.List.Sorted.{IsPermutation-sym, Contains-permutation}
 use Rattle.std.proofs.lemmas.List.Sums.{sum_by_push}
-use Rattle.rm_sets.specs.Sets.{has, all_below}
-use Rattle.rm_policy.specs.Marks.{IsMarked}
-use Rattle.rm_policy.specs.Groups.{lies_in}
+use Rattle.std.proofs.lemmas.Map.Keys.{IsStrictlyIncreasing-dedup}
+use Rattle.rm_sets.specs.Sets.{has, IsIn, IsSet, all_below}
+use Rattle.rm_sets.proofs.Sets.{same_tests, has-append, has-all_below, IsSet-all_below, same_sets}
+use Rattle.rm_sets.proofs.Sizes.{length_below}
+use Rattle.rm_sets.proofs.Members.{IsIn-from_Contains, Contains-from_IsIn}
+use Rattle.rm_policy.specs.Gathered.{Gathers, IsGathered}
 
 eqb_sym : (m n : ℕ) → (m == n) ≡ (n == m)
 eqb_sym m n = elim (cases_eq m n) [
@@ -28,77 +36,76 @@ all_below_more n test = rw (add-one n) refl
 pub sum_below_more : (f : ℕ → ℕ) (xs : List ℕ) (n : ℕ) → sum_by f (xs ++ n ∷ []) ≡ sum_by f xs + f n
 sum_below_more f xs n = sum_by_push f xs n
 
-pub all_below_same : (n : ℕ) (f g : ℕ → Bool) → ((k : ℕ) → k < n → f k ≡ g k) → all_below n f ≡ all_below n g
-all_below_same zero f g same = refl
-all_below_same (suc n) f g same =
-    rw (all_below_same n f g (λ k lt. same k (omega (arith, lt))), same n (omega arith)) refl
+-- ---- numbers that are gathered
 
--- ---- marks
+-- sorted, and each once
+pub settled-set : (mid new : List ℕ) → IsSorted nat_cmp mid → IsFiltered (DiffersFromLast eqb) [] mid new → IsSet new
+settled-set mid new sorted kept = subst IsSet (sym (dedup_is eqb mid new kept)) (IsStrictlyIncreasing-dedup mid sorted)
 
-or_false : (b : Bool) → b ≡ (b || false)
-or_false true = refl
-or_false false = refl
+pub settled-same : (old mid new : List ℕ) → IsPermutation old mid → IsFiltered (DiffersFromLast eqb) [] mid new → (n : ℕ) → has n new ≡ has n old
+settled-same old mid new moved kept n =
+    rw (dedup_is eqb mid new kept)
+    (same_tests (has n (dedup eqb mid)) (has n old)
+    (λ i. IsIn-from_Contains old n (Contains-permutation mid old n (IsPermutation-sym old mid moved) (Contains-from_dedup eqb mid n (Contains-from_IsIn (dedup eqb mid) n i))))
+    (λ i. IsIn-from_Contains (dedup eqb mid) n (Contains-dedup_nat mid n (Contains-permutation old mid n moved (Contains-from_IsIn old n i)))))
 
-or_then : (a b c : Bool) → ((a || b) || c) ≡ (a || (b || c))
-or_then true b c = refl
-or_then false b c = refl
-
-or_true : (b : Bool) → true ≡ (b || true)
-or_true true = refl
-or_true false = refl
-
-pub marked-none : (m : List Bool) (test : ℕ → Bool) → ((n : ℕ) → test n ≡ false) → IsMarked m m test
-marked-none m test absent = record { size = refl; marks = λ n lt. rw (absent n) (or_false (get_or m n false)) }
-
-pub marked-one : (m : List Bool) (x : ℕ) → IsMarked m (set m x true) (λ n. n == x)
-marked-one m x = record {
-  size = length-set m x true;
-  marks = λ n lt. (elim (cases_eq n x) [
-    | inl same ↦ rw (same, get_or-set_same m x true false (rw same at lt), eq-eqb x x refl) (or_true (get_or m x false))
-    | inr other ↦ rw (get_or-set_other m x n true false other, ne_eqb n x other) (or_false (get_or m n false))
+-- one more number below the count
+gathers-one : (count : ℕ) (L : List ℕ) (x : ℕ) → x < count → Gathers count L (L ++ x ∷ []) (λ n. n == x)
+gathers-one count L x lt = record {
+  members = λ n. has-append L (x ∷ []) n ∙ ap (λ b. has n L || b) (elim (cases_eq n x) [
+    | inl same ↦ rw (same, eq-eqb x x refl, lt-ltb x count lt) refl
+    | inr other ↦ rw (ne_eqb n x other) (sym (and-false (nat_lt n count)))
   ]);
 }
 
--- marks after marks, where the tests together are the whole test
-pub marked-more : (old mid new : List Bool) (first second both : ℕ → Bool) → IsMarked old mid first → IsMarked mid new second → ((n : ℕ) → both n ≡ (first n || second n)) → IsMarked old new both
-marked-more old mid new first second both a b together = record {
-  size = b.size ∙ a.size;
-  marks = λ n lt. b.marks n (omega (arith, lt, a.size)) ∙ rw (a.marks n lt, together n) (or_then (get_or old n false) (first n) (second n));
+-- one that is not below it
+gathers-past : (count : ℕ) (L : List ℕ) (x : ℕ) → count ≤ x → Gathers count L L (λ n. n == x)
+gathers-past count L x past = record {
+  members = λ n. (elim (cases_eq n x) [
+    | inl same ↦ rw (same, le-ltb x count past) (sym (or-false (has x L)))
+    | inr other ↦ rw (ne_eqb n x other, and-false (nat_lt n count)) (sym (or-false (has n L)))
+  ]);
+}
+
+-- more after that, where the tests together are the whole test
+gathers-more : (count : ℕ) (old mid new : List ℕ) (first second both : ℕ → Bool) → Gathers count old mid first → Gathers count mid new second → ((n : ℕ) → both n ≡ (first n || second n)) → Gathers count old new both
+gathers-more count old mid new first second both a b together = record {
+  members = λ n. b.members n ∙ rw (a.members n, together n) (or_assoc (has n old) (nat_lt n count && first n) (nat_lt n count && second n) ∙ ap (λ t. has n old || t) (sym (and-or_distrib_left (nat_lt n count) (first n) (second n))));
 }
 
 has_more : (n : ℕ) (xs : List ℕ) (i d : ℕ) → i < length xs → has n (take (i + 1) xs) ≡ (has n (take i xs) || (n == get_or xs i d))
 has_more n xs i d lt = sym (has_contains n (take (i + 1) xs)) ∙ list_any_more (λ x. x == n) xs i d lt ∙ rw (has_contains n (take i xs), eqb_sym (get_or xs i d) n) refl
 
-pub listed-more : (old mid : List Bool) (xs : List ℕ) (i : ℕ) → i < length xs → IsMarked old mid (λ n. has n (take i xs)) → IsMarked old (set mid (get_or xs i 0) true) (λ n. has n (take (i + 1) xs))
-listed-more old mid xs i lt so_far =
-    marked-more old mid (set mid (get_or xs i 0) true) (λ n. has n (take i xs)) (λ n. n == get_or xs i 0) (λ n. has n (take (i + 1) xs)) so_far (marked-one mid (get_or xs i 0)) (λ n. has_more n xs i 0 lt)
+-- one more number of a list
+pub listed-more : (count : ℕ) (old mid : List ℕ) (xs : List ℕ) (i : ℕ) → i < length xs → Gathers count old mid (λ n. has n (take i xs)) → get_or xs i 0 < count → Gathers count old (mid ++ get_or xs i 0 ∷ []) (λ n. has n (take (i + 1) xs))
+listed-more count old mid xs i lt so_far fits =
+    gathers-more count old mid (mid ++ get_or xs i 0 ∷ []) (λ n. has n (take i xs)) (λ n. n == get_or xs i 0) (λ n. has n (take (i + 1) xs)) so_far (gathers-one count mid (get_or xs i 0) fits) (λ n. has_more n xs i 0 lt)
 
-pub sets-more : (old mid new : List Bool) (sets : List (List ℕ)) (xs : List ℕ) (i : ℕ) → i < length xs → IsMarked old mid (λ n. lies_in n sets (take i xs)) → IsMarked mid new (λ n. has n (get_or sets (get_or xs i 0) []))
-    → IsMarked old new (λ n. lies_in n sets (take (i + 1) xs))
-sets-more old mid new sets xs i lt so_far here =
-    marked-more old mid new (λ n. lies_in n sets (take i xs)) (λ n. has n (get_or sets (get_or xs i 0) [])) (λ n. lies_in n sets (take (i + 1) xs)) so_far here
-    (λ n. list_any_more (λ y. has n (get_or sets y [])) xs i 0 lt)
+pub listed-past : (count : ℕ) (old mid : List ℕ) (xs : List ℕ) (i : ℕ) → i < length xs → Gathers count old mid (λ n. has n (take i xs)) → count ≤ get_or xs i 0 → Gathers count old mid (λ n. has n (take (i + 1) xs))
+listed-past count old mid xs i lt so_far past =
+    gathers-more count old mid mid (λ n. has n (take i xs)) (λ n. n == get_or xs i 0) (λ n. has n (take (i + 1) xs)) so_far (gathers-past count mid (get_or xs i 0) past) (λ n. has_more n xs i 0 lt)
 
--- the whole list was gone through
-pub marked-all : {X : Type 0} (old new : List Bool) (test : List X → ℕ → Bool) (xs : List X) (i : ℕ) → length xs ≤ i → IsMarked old new (test (take i xs)) → IsMarked old new (test xs)
-marked-all old new test xs i h m = rw (take_all i xs h) at m
+gathered-below : (count : ℕ) (old new : List ℕ) (test : ℕ → Bool) → IsGathered count old → Gathers count old new test → (n : ℕ) → IsIn n new → n < count
+gathered-below count old new test few more n i =
+    ⊎_elim (few.below n) (λ both. ltb-true n count (and_parts (nat_lt n count) (test n) both).0)
+    (or_cases (has n old) (nat_lt n count && test n) (sym (more.members n) ∙ i))
 
--- three lists of marks, one after the other
-pub marked-three : (m a b c : List Bool) (first second third : ℕ → Bool) → IsMarked m a first → IsMarked a b second → IsMarked b c third → IsMarked m c (λ k. first k || second k || third k)
-marked-three m a b c first second third one two three =
-    marked-more m b c (λ k. first k || second k) third (λ k. first k || second k || third k) (marked-more m a b first second (λ k. first k || second k) one two (λ k. refl)) three (λ k. refl)
+-- what was gathered is few
+pub few-gathered : (count : ℕ) (old new : List ℕ) (test : ℕ → Bool) → IsGathered count old → Gathers count old new test → length new ≤ 2 * count → IsGathered count new
+few-gathered count old new test few more short = record { below = gathered-below count old new test few more; few = short }
 
--- what is marked where nothing was
-pub marked-numbers : (n : ℕ) (old new new_too : List Bool) (test : ℕ → Bool) (items : List ℕ) → old ≡ replicate n false → new ≡ new_too → IsMarked old new test → items ≡ all_below (length new_too) (λ k. get_or new_too k false) → items ≡ all_below n test
-marked-numbers n old new new_too test items none same m are =
-    let size : length new ≡ n = m.size ∙ ap length none ∙ length-replicate n false in
-    let all : items ≡ all_below n (λ k. get_or new k false) = are ∙ rw (← same, size) refl in
-    all ∙ all_below_same n (λ k. get_or new k false) test (λ k lt.
-    m.marks k (omega (arith, lt, size, m.size)) ∙ rw (none, get_or-replicate n k false false lt) refl)
+-- what was gathered, and then settled, is few
+pub few-settled : (count : ℕ) (old mid new : List ℕ) (test : ℕ → Bool) → IsGathered count old → Gathers count old mid test → IsSet new → ((n : ℕ) → has n new ≡ has n mid) → IsGathered count new
+few-settled count old mid new test few more set same =
+    let below : (n : ℕ) → IsIn n new → n < count = λ n i. gathered-below count old mid test few more n (sym (same n) ∙ i) in
+    let most = length_below count new (record { ascending = set; below = below }) in
+    record { below = below; few = omega (arith, most) }
 
--- a lent slice of a list, written back
-pub written-back : (new items now back : List Bool) (len : ℕ) → len ≡ length items → now ≡ items → length new ≡ length now → back ≡ take len (new ++ drop (length new) items) → new ≡ back
-written-back new items now back len long value size is =
-    let same : length new ≡ length items = size ∙ ap length value in
-    let none : drop (length new) items ≡ [] = drop_all (length new) items (omega (arith, same)) in
-    sym (is ∙ rw none refl ∙ ap (take len) (append-nil new) ∙ take_all len new (omega (arith, same, long)))
+-- what was gathered from nothing, by three tests, as a set
+pub gathered-union : (count : ℕ) (a b c items : List ℕ) (first second third : ℕ → Bool) → Gathers count [] a first → Gathers count a b second → Gathers count b c third → IsSet items → ((n : ℕ) → has n items ≡ has n c)
+    → items ≡ all_below count (λ k. first k || second k || third k)
+gathered-union count a b c items first second third one two three set same =
+    let test : ℕ → Bool = λ k. first k || second k || third k in
+    let both = gathers-more count [] a b first second (λ k. first k || second k) one two (λ k. refl) in
+    let all = gathers-more count [] b c (λ k. first k || second k) third test both three (λ k. refl) in
+    same_sets items (all_below count test) set (IsSet-all_below count test) (λ n. same n ∙ all.members n ∙ sym (has-all_below count test n))

@@ -1,12 +1,12 @@
 pub mod Answers
 pub mod Entries
 pub mod EntryAnswers
+pub mod Gathered
 pub mod GroupAnswers
 pub mod Groups
 pub mod HospitalAnswers
 pub mod Hospitals
 pub mod Keys
-pub mod Marks
 pub mod Policy
 pub mod Prefectures
 pub mod Steps

@@ -1,12 +1,12 @@
 // Sets of hospitals, as ascending lists.
 
-ghost use Rattle.std.specs.Prelude.{◌≡◌, ◌<◌, ◌≤◌, ◌==◌, ◌^◌, ◌||◌, ℕ, Option, List, Some, None, [], map, get_or, set, length, true, false, IfOk, All, not};
+ghost use Rattle.std.specs.Prelude.{◌≡◌, ◌<◌, ◌≤◌, ◌==◌, ◌^◌, ◌||◌, ℕ, Option, List, Some, None, [], map, get_or, length, true, false, IfOk, OnOk, All, not};
 ghost use Rattle.std.specs.List.{list_any};
-ghost use Rattle.rm_sets.specs.Sets.{has, all_below};
+ghost use Rattle.rm_sets.specs.Sets.{has, IsSet, all_below};
 ghost use Rattle.rm_roster.specs.Roster.{RosterData};
 ghost use Rattle.rm_policy.specs.Prefectures.{hospitals_in, is_missing, targets_of};
 ghost use Rattle.rm_policy.specs.Groups.{by_prefecture, lies_in};
-ghost use Rattle.rm_policy.specs.Marks.{IsMarked};
+ghost use Rattle.rm_policy.specs.Gathered.{Gathers, IsGathered};
 
 use rm_base::NoMemory;
 use rm_roster::Roster;
@@ -67,70 +67,65 @@ pub fn targets_of(roster: &Roster, p: u32) -> u64
     total
 }
 
-// Marks a number, unless it is past the end.
-fn mark(marks: &mut [bool], n: u32)
-    ensures { marks.new ≡ set marks.old n true }
+// Sorts numbers, and keeps each of them once.
+fn settle(numbers: &mut Vec<u32>)
+    ensures set { IsSet numbers.new.items }
+    ensures same { (n : ℕ) → has n numbers.new.items ≡ has n numbers.old.items }
 {
-    if (n as usize) < marks.len() {
-        marks[n as usize] = true;
-    }
+    numbers.sort_unstable();
+    numbers.dedup();
 }
 
-// Marks the numbers of a list.
-fn mark_all(marks: &mut [bool], list: &[u32])
-    ensures { IsMarked marks.old marks.new (λ n. has n list.now) }
+// Adds the numbers of a list that are below a count, and settles them once they are more than twice as many.
+fn gather(numbers: &mut Vec<u32>, count: u32, list: &[u32]) -> Result<(), NoMemory>
+    requires { IsGathered count numbers.old.items }
+    ensures members { OnOk result (Gathers count numbers.old.items numbers.new.items (λ n. has n list.now)) }
+    ensures room { OnOk result (IsGathered count numbers.new.items) }
 {
     for i in 0..list.len() {
-        mark(marks, list[i]);
+        if list[i] >= count {
+            continue;
+        }
+        numbers.push(list[i])?;
     }
+    if numbers.len() > 2 * count as usize {
+        settle(numbers);
+    }
+    Ok(())
 }
 
-// Marks the numbers of the set of this number, if there is one.
-fn mark_set(marks: &mut [bool], sets: &[Vec<u32>], number: u32)
-    ensures { IsMarked marks.old marks.new (λ n. has n (get_or (map (λ s. s.items) sets.now) number [])) }
+// Adds the numbers of the set of this number, if there is one.
+fn gather_set(
+    numbers: &mut Vec<u32>,
+    count: u32,
+    sets: &[Vec<u32>],
+    number: u32,
+) -> Result<(), NoMemory>
+    requires { IsGathered count numbers.old.items }
+    ensures members { OnOk result (Gathers count numbers.old.items numbers.new.items (λ n. has n (get_or (map (λ s. s.items) sets.now) number []))) }
+    ensures room { OnOk result (IsGathered count numbers.new.items) }
 {
     if let Some(set) = sets.get(number as usize) {
-        mark_all(marks, set);
+        gather(numbers, count, set)?;
     }
+    Ok(())
 }
 
-// Marks the numbers of the sets of these numbers.
-fn mark_sets(marks: &mut [bool], sets: &[Vec<u32>], numbers: &[u32])
-    ensures { IsMarked marks.old marks.new (λ n. lies_in n (map (λ s. s.items) sets.now) numbers.now) }
+// Adds the numbers of the sets of these numbers.
+fn gather_sets(
+    numbers: &mut Vec<u32>,
+    count: u32,
+    sets: &[Vec<u32>],
+    chosen: &[u32],
+) -> Result<(), NoMemory>
+    requires { IsGathered count numbers.old.items }
+    ensures members { OnOk result (Gathers count numbers.old.items numbers.new.items (λ n. lies_in n (map (λ s. s.items) sets.now) chosen.now)) }
+    ensures room { OnOk result (IsGathered count numbers.new.items) }
 {
-    for i in 0..numbers.len() {
-        mark_set(marks, sets, numbers[i]);
+    for i in 0..chosen.len() {
+        gather_set(numbers, count, sets, chosen[i])?;
     }
-}
-
-// The numbers that are marked.
-fn marked(alloc: Global, marks: &[bool]) -> Result<Vec<u32>, NoMemory>
-    requires { length marks.now < 2 ^ 32 }
-    ensures { IfOk result (λ v. v.items ≡ all_below (length marks.now) (λ n. get_or marks.now n false)) }
-{
-    let mut numbers = Vec::new(alloc);
-    for i in 0..marks.len() {
-        if marks[i] {
-            numbers.push(i as u32)?;
-        }
-    }
-    Ok(numbers)
-}
-
-// Marks the hospitals of a list, of the prefectures of these numbers, and of the groups of these numbers.
-fn mark_union(
-    marks: &mut [bool],
-    hospitals: &[u32],
-    prefecture_sets: &[Vec<u32>],
-    prefectures: &[u32],
-    group_sets: &[Vec<u32>],
-    groups: &[u32],
-)
-    ensures { IsMarked marks.old marks.new (λ h. has h hospitals.now || lies_in h (map (λ s. s.items) prefecture_sets.now) prefectures.now || lies_in h (map (λ s. s.items) group_sets.now) groups.now) }
-{
-    mark_all(marks, hospitals);
-    mark_sets(marks, prefecture_sets, prefectures);
-    mark_sets(marks, group_sets, groups);
+    Ok(())
 }
 
 /// The hospitals below a count that are in a list, or in one of the prefectures of these numbers, or in one of the groups of
@@ -146,15 +141,10 @@ pub fn union(
 ) -> Result<Vec<u32>, NoMemory>
     ensures { IfOk result (λ v. v.items ≡ all_below count (λ h. has h hospitals.now || lies_in h (map (λ s. s.items) prefecture_sets.now) prefectures.now || lies_in h (map (λ s. s.items) group_sets.now) groups.now)) }
 {
-    let mut marks = vec![in alloc; false; count as usize]?;
-    mark_union(
-        &mut marks,
-        hospitals,
-        prefecture_sets,
-        prefectures,
-        group_sets,
-        groups,
-    );
-    let numbers = marked(alloc, &marks)?;
-    Ok(numbers)
+    let mut members = Vec::new(alloc);
+    gather(&mut members, count, hospitals)?;
+    gather_sets(&mut members, count, prefecture_sets, prefectures)?;
+    gather_sets(&mut members, count, group_sets, groups)?;
+    settle(&mut members);
+    Ok(members)
 }
