@@ -1,5 +1,5 @@
 -- The greatest number of a heap, as one comes or goes.
-use Rattle.std.proofs.Common.{◌≡◌, ◌∙◌, All, ℕ, ◌<◌, ◌≤◌, List, [], ◌∷◌, true, length, get_or, Option, Some, None, sym, subst, ⊎_elim, arith, true≢false, Result, Ok, Err}
+use Rattle.std.proofs.Common.{◌≡◌, ◌∙◌, ℕ, ◌<◌, ◌≤◌, List, [], ◌∷◌, true, length, get_or, Option, Some, None, sym, subst, ⊎_elim, arith, true≢false, Result, Ok, Err}
 use Rattle.std.specs.Ordering.{nat_cmp}
 use Rattle.std.specs.Prelude.{IfSome, IfNone, OnOk, is_ok}
 use Rattle.std.specs.List.Sorted.{IsPermutation}
@@ -7,7 +7,7 @@ use Rattle.std.specs.BinaryHeap.{IsHeap, IsUpperBound, PopsGreatest}
 use Rattle.std.proofs.lemmas.List.Sorted.{IsPermutation-sym, Contains-permutation, le_from_greatest}
 use Rattle.rm_sets.specs.Sets.{IsIn}
 use Rattle.rm_sets.proofs.Sets.{IsIn-here, IsIn-later, IsIn-cases}
-use Rattle.rm_sets.proofs.Members.{not_in_nil, members_from_All, All-from_members, IsIn-get_or, IsIn-from_Contains, Contains-from_IsIn}
+use Rattle.rm_sets.proofs.Members.{not_in_nil, members_from_All, IsIn-get_or, IsIn-from_Contains, Contains-from_IsIn}
 use Rattle.rm_exchange.specs.Leaves.{IsGreatest, IsGreatestOf}
 
 in_permutation : (xs ys : List ℕ) (y : ℕ) → IsPermutation xs ys → IsIn y xs → IsIn y ys
@@ -59,12 +59,6 @@ taken_is old new z (Some x) order p top none inz up =
     let high = members_from_All (λ w. w ≤ x) old (le_from_greatest x old (top order).1) z inz in
     let e : x ≡ z = omega (arith, low, high) in
     subst (λ w. IsPermutation old (w ∷ new)) e p
-
--- what holds of all in a heap holds of all that are left
-pub rest_known : (L : Type 0) → (P : ℕ → Type 0) (old new : List ℕ) (o : Option ℕ) → All P old → IfSome o (λ x. IsPermutation old (x ∷ new)) → IfNone o ((new ≡ old) × L) → All P new
-rest_known L P old new None all p same = subst (All P) (sym same.0) all
-rest_known L P old new (Some z) all p same =
-    All-from_members P new (λ y i. members_from_All P old all y (in_permutation (z ∷ new) old y (IsPermutation-sym old (z ∷ new) p) (IsIn-later y z new i)))
 
 pub from_on_ok : {A E : Type 0} (P : Type 0) (r : Result A E) → is_ok r ≡ true → OnOk r P → P
 from_on_ok P (Ok a) e p = p

@@ -1,5 +1,6 @@
 -- The held contracts of a hospital: the greatest one is the cheapest, and one comes or goes.
-use Rattle.std.proofs.Common.{◌≡◌, ◌≢◌, ◌∙◌, ℕ, ◌+◌, ◌<◌, ◌≤◌, List, [], ◌∷◌, ◌++◌, Bool, true, false, ◌&&◌, length, get_or, set, eqb, count_by, All, Option, Some, None, pos, refl, sym, ap, subst, inr, ⊎_elim, arith, eqb-true, eq-eqb, ne_eqb, add-one}
+use Rattle.std.proofs.Common.{◌≡◌, ◌≢◌, ◌∙◌, ℕ, ◌+◌, ◌<◌, ◌≤◌, List, [], ◌∷◌, ◌++◌, Bool, true, false, ◌&&◌, length, get_or, set, eqb, count_by, Option, Some, None, pos, refl, sym, ap, subst, inr, ⊎_elim, arith, eqb-true, eq-eqb, ne_eqb, add-one}
+use Rattle.std.specs.Prelude.{IfSome}
 use Rattle.std.specs.Ordering.{nat_cmp}
 use Rattle.std.specs.List.Sorted.{IsPermutation}
 use Rattle.std.specs.BinaryHeap.{heap_items, heap_len, heap_capacity, IsHeap}
@@ -11,23 +12,24 @@ use Rattle.std.proofs.lemmas.List.Sorted.{sum_by_pushed, sum_by_popped}
 use Rattle.rm_sets.specs.Sets.{has, IsIn, IsSet, IsSetBelow, with_one, without, below}
 use Rattle.rm_sets.proofs.Sets.{IsIn-here, IsIn-later, IsIn-cases, IsSet-with_one, IsSet-without, IsSet-all_below, below-all_below}
 use Rattle.rm_sets.proofs.Sizes.{length-all_below}
-use Rattle.rm_sets.proofs.Members.{not_in_nil, not_in_from, with_one_within, IsIn-all_below, All-from_members}
-use Rattle.rm_market.specs.Board.{Board, contract_count, leaf_of, node_at, cap_of, sets_of, count_at}
+use Rattle.rm_sets.proofs.Members.{not_in_nil, not_in_from, with_one_within, IsIn-all_below}
+use Rattle.rm_market.specs.Board.{Board, contract_count, leaf_of, node_at, no_node, cap_of, sets_of, count_at, is_feasible}
 use Rattle.rm_market.specs.Tree.{is_inside, set_of}
 use Rattle.rm_valuation_laws.specs.Scores.{place}
 use Rattle.rm_valuation_laws.specs.Changes.{test_at, last_step}
 use Rattle.rm_valuation_laws.proofs.Cheapest.{count_agree}
 use Rattle.rm_valuation_laws.proofs.Counts.{one, count-cons, count_all, count-with_one, count-without, count_within}
+use Rattle.rm_valuation_laws.proofs.LaminarExchange.{caps_from_feasible}
 use Rattle.rm_valuation_laws.proofs.Moves.{with_other, without_other}
 use Rattle.rm_exchange.specs.declared.removal.Removal.{Removal}
 use Rattle.rm_exchange.specs.declared.leaf.Leaf.{Leaf}
 use Rattle.rm_exchange.specs.Entrants.{HasHospitals, inner_cost, IsBestAt}
 use Rattle.rm_exchange.specs.Prospects.{AgreesWith}
-use Rattle.rm_exchange.specs.Leaves.{IsGreatestOf, IsTieOf, IsOwnRemovalOf, IsLeafOf, AreLeaves}
+use Rattle.rm_exchange.specs.Leaves.{IsGreatestOf, IsOwnRemovalOf, room_at, IsLeafOf, AreLeaves}
 use Rattle.rm_exchange.specs.Holding.{IsLastHeld}
 use Rattle.rm_exchange.proofs.Inner.{inner_none}
 use Rattle.rm_exchange.proofs.Lists.{with_last}
-use Rattle.rm_exchange.proofs.Homes.{own_test, leaf_test_is, nothing_inside}
+use Rattle.rm_exchange.proofs.Homes.{own_test, leaf_test, leaf_test_is, nothing_inside}
 
 -- ---- members by counts
 
@@ -70,8 +72,13 @@ member_from b H h y leaf k i t =
     let found = some_member (λ z. eqb z y) (heap_items leaf.held) (subst (λ n. 0 < n) (sym (k.same (λ z. eqb z y))) there) in
     subst (λ w. IsIn w (heap_items leaf.held)) (eqb-true found.0 y found.2) found.1
 
-pub known_members : (b : Board) (H : List ℕ) (h : ℕ) (leaf : Leaf) → IsSetBelow (contract_count b) H → IsLeafOf b H h leaf → All (λ x. x < contract_count b) (heap_items leaf.held)
-known_members b H h leaf sH k = All-from_members (λ x. x < contract_count b) (heap_items leaf.held) (λ x i. sH.below x (member_of b H h x leaf k i).0)
+-- the last contract of a leaf is one of the board's
+pub last_known : (b : Board) (H : List ℕ) (h : ℕ) (leaf : Leaf) → IsSetBelow (contract_count b) H → IsLeafOf b H h leaf → IfSome leaf.last (λ x. x < contract_count b)
+last_known b H h leaf sH k = by_last leaf.last k.last
+  where
+    by_last : (last : Option ℕ) → IsGreatestOf (heap_items leaf.held) last → IfSome last (λ x. x < contract_count b)
+    by_last None none = tt
+    by_last (Some z) top = sH.below z (member_of b H h z leaf k top.member).0
 
 -- ---- the greatest contract of a leaf is the cheapest there
 
@@ -158,23 +165,27 @@ and_true : (t : Bool) → (t && true) ≡ t
 and_true true = refl
 and_true false = refl
 
--- there is room for one more
-pub leaf_room : (b : Board) (H : List ℕ) (h x : ℕ) (leaf : Leaf) → IsSetBelow (contract_count b) H → x < contract_count b → has x H ≡ false → test_at b h x ≡ true → IsLeafOf b H h leaf → heap_len leaf.held < heap_capacity leaf.held
-leaf_room b H h x leaf sH lx new t k =
+-- there is room for one more, where that is feasible
+pub leaf_room : (b : Board) → HasHospitals b → (H : List ℕ) (x : ℕ) (leaf : Leaf) → IsSetBelow (contract_count b) H → x < contract_count b → has x H ≡ false → is_feasible b (with_one H x) ≡ true → IsLeafOf b H (leaf_of b x) leaf → heap_len leaf.held < heap_capacity leaf.held
+leaf_room b plan H x leaf sH lx new fits k =
+    let h = leaf_of b x in
     let long = leaf.held.data.ok.0 in
     let all = count_all (heap_items leaf.held) in
     let same : count_by (λ z. true) (heap_items leaf.held) ≡ count_by (test_at b h) H = k.same (λ z. true) in
     let more = count-with_one (test_at b h) H x new in
-    let here = one_true (test_at b h x) t in
+    let here = one_true (test_at b h x) (leaf_test b plan x lx) in
     let n = contract_count b in
-    let le : count_by (test_at b h) (with_one H x) ≤ count_by (test_at b h) (below n) =
+    let few : count_by (test_at b h) (with_one H x) ≤ count_by (test_at b h) (below n) =
     count_within (test_at b h) (with_one H x) (below n) (IsSet-with_one H x sH.ascending) (IsSet-all_below n (λ k. true))
     (with_one_within H (below n) x (λ y i. IsIn-all_below n (λ k. true) y (sH.below y i) refl) (IsIn-all_below n (λ k. true) x lx refl)) in
+    let lt = plan.leaf x lx in
+    let nodes = plan.nodes in
+    let capped : count_by (test_at b h) (with_one H x) ≤ cap_of (node_at b h) = caps_from_feasible b (with_one H x) fits h no_node (omega arith) in
     let room = k.room in
     omega arith
 
-pub leaf_with : (b : Board) (H : List ℕ) (h x : ℕ) (leaf next : Leaf) → has x H ≡ false → test_at b h x ≡ true → IsLeafOf b H h leaf → IsPermutation (x ∷ heap_items leaf.held) (heap_items next.held) → (IsHeap nat_cmp (heap_items leaf.held) → IsHeap nat_cmp (heap_items next.held)) → IsGreatestOf (heap_items next.held) next.last → IsTieOf b.ties next.last next.last_tie → next.cap ≡ leaf.cap → heap_capacity leaf.held ≤ heap_capacity next.held → IsLeafOf b (with_one H x) h next
-leaf_with b H h x leaf next new t k items order last tie cap wide = record {
+pub leaf_with : (b : Board) (H : List ℕ) (h x : ℕ) (leaf next : Leaf) → has x H ≡ false → test_at b h x ≡ true → IsLeafOf b H h leaf → IsPermutation (x ∷ heap_items leaf.held) (heap_items next.held) → (IsHeap nat_cmp (heap_items leaf.held) → IsHeap nat_cmp (heap_items next.held)) → IsGreatestOf (heap_items next.held) next.last → next.cap ≡ leaf.cap → heap_capacity leaf.held ≤ heap_capacity next.held → IsLeafOf b (with_one H x) h next
+leaf_with b H h x leaf next new t k items order last cap wide = record {
   same = λ p.
       let pushed = sum_by_pushed (λ z. one (p z)) x (heap_items leaf.held) (heap_items next.held) items in
       let old = k.same p in
@@ -185,11 +196,10 @@ leaf_with b H h x leaf next new t k items order last tie cap wide = record {
   order = order k.order;
   cap = cap ∙ k.cap;
   last = last;
-  tie = tie;
 }
 
-pub leaf_without : (b : Board) (H : List ℕ) (h z : ℕ) (leaf next : Leaf) → IsSet H → IsIn z H → test_at b h z ≡ true → IsLeafOf b H h leaf → IsPermutation (heap_items leaf.held) (z ∷ heap_items next.held) → IsHeap nat_cmp (heap_items next.held) → IsGreatestOf (heap_items next.held) next.last → IsTieOf b.ties next.last next.last_tie → next.cap ≡ leaf.cap → heap_capacity next.held ≡ heap_capacity leaf.held → IsLeafOf b (without H z) h next
-leaf_without b H h z leaf next sH inH t k items order last tie cap wide = record {
+pub leaf_without : (b : Board) (H : List ℕ) (h z : ℕ) (leaf next : Leaf) → IsSet H → IsIn z H → test_at b h z ≡ true → IsLeafOf b H h leaf → IsPermutation (heap_items leaf.held) (z ∷ heap_items next.held) → IsHeap nat_cmp (heap_items next.held) → IsGreatestOf (heap_items next.held) next.last → next.cap ≡ leaf.cap → heap_capacity next.held ≡ heap_capacity leaf.held → IsLeafOf b (without H z) h next
+leaf_without b H h z leaf next sH inH t k items order last cap wide = record {
   same = λ p.
       let popped = sum_by_popped (λ y. one (p y)) z (heap_items leaf.held) (heap_items next.held) items in
       let old = k.same p in
@@ -200,7 +210,6 @@ leaf_without b H h z leaf next sH inH t k items order last tie cap wide = record
   order = order;
   cap = cap ∙ k.cap;
   last = last;
-  tie = tie;
 }
 
 -- a leaf stays as it is where the same contracts are held there
@@ -211,7 +220,6 @@ leaf_stays b H K h leaf sH sK agree k = record {
   order = k.order;
   cap = k.cap;
   last = k.last;
-  tie = k.tie;
 }
 
 -- one leaf changes, and at the others the same contracts are held
@@ -283,21 +291,20 @@ counted_more b x leaf counts next own is wide few put old h lt =
 
 -- ---- no contracts
 
-pub empty_leaf : (b : Board) (h : ℕ) (leaf : Leaf) → heap_items leaf.held ≡ [] → count_at b (below (contract_count b)) h ≤ heap_capacity leaf.held → leaf.cap ≡ cap_of (node_at b h) → leaf.last ≡ None → IsHeap nat_cmp (heap_items leaf.held) → IsLeafOf b [] h leaf
+pub empty_leaf : (b : Board) (h : ℕ) (leaf : Leaf) → heap_items leaf.held ≡ [] → heap_capacity leaf.held ≡ room_at b h → leaf.cap ≡ cap_of (node_at b h) → leaf.last ≡ None → IsHeap nat_cmp (heap_items leaf.held) → IsLeafOf b [] h leaf
 empty_leaf b h leaf none room cap last order = record {
   same = λ p. ap (count_by p) none;
-  room = room;
+  room = omega arith;
   order = order;
   cap = cap;
   last = subst (IsGreatestOf (heap_items leaf.held)) (sym last) none;
-  tie = subst (λ o. IsTieOf b.ties o leaf.last_tie) (sym last) tt;
 }
 
 -- one leaf more
-pub leaves_more : (b : Board) (n : ℕ) (leaves next : List Leaf) (leaf : Leaf) → next ≡ leaves ++ leaf ∷ [] → length leaves ≡ n → ((h : ℕ) (d : Leaf) → h < n → IsLeafOf b [] h (get_or leaves h d)) → IsLeafOf b [] n leaf → (h : ℕ) (d : Leaf) → h < n + 1 → IsLeafOf b [] h (get_or next h d)
-leaves_more b n leaves next leaf e long old new h d lt =
-    subst (λ L. IsLeafOf b [] h (get_or L h d)) (sym e)
+pub leaves_more : (P : ℕ → Leaf → Type 0) (n : ℕ) (leaves next : List Leaf) (leaf : Leaf) → next ≡ leaves ++ leaf ∷ [] → length leaves ≡ n → ((h : ℕ) (d : Leaf) → h < n → P h (get_or leaves h d)) → P n leaf → (h : ℕ) (d : Leaf) → h < n + 1 → P h (get_or next h d)
+leaves_more P n leaves next leaf e long old new h d lt =
+    subst (λ L. P h (get_or L h d)) (sym e)
     (⊎_elim
-    (λ same. subst (IsLeafOf b [] h) (sym (get_or_push leaves leaf d h (long ∙ sym same))) (subst (λ w. IsLeafOf b [] w leaf) (sym same) new))
-    (λ ne. let before : h < n = omega arith in subst (IsLeafOf b [] h) (sym (get_or_append_left leaves (leaf ∷ []) d h (omega arith))) (old h d before))
+    (λ same. subst (P h) (sym (get_or_push leaves leaf d h (long ∙ sym same))) (subst (λ w. P w leaf) (sym same) new))
+    (λ ne. let before : h < n = omega arith in subst (P h) (sym (get_or_append_left leaves (leaf ∷ []) d h (omega arith))) (old h d before))
     (cases_eq h n))

@@ -1,8 +1,8 @@
 // The held contracts by node, mended along one chain as a contract comes or goes.
 
-ghost use Rattle.std.specs.Prelude.{◌≡◌, ◌<◌, ◌≤◌, ◌-ℤ◌, ◌≤ℤ◌, pos, ℕ, List, [], true, not, length, get_or, set, IsFalse, IfSome};
+ghost use Rattle.std.specs.Prelude.{◌≡◌, ◌<◌, ◌≤◌, ◌-ℤ◌, ◌≤ℤ◌, pos, ℕ, List, [], true, not, length, get_or, set, IsTrue, IsFalse, IfSome};
 ghost use Rattle.rm_sets.specs.Sets.{has, IsIn, with_one, without};
-ghost use Rattle.rm_market.specs.Board.{contract_count, leaf_of, sets_of};
+ghost use Rattle.rm_market.specs.Board.{contract_count, leaf_of, sets_of, is_feasible};
 ghost use Rattle.rm_market.specs.Best.{swapped};
 ghost use Rattle.rm_market.specs.Tree.{chain};
 ghost use Rattle.rm_valuation_laws.specs.Changes.{test_at};
@@ -37,14 +37,14 @@ pub(crate) fn chain_of(board: &Board, x: u32) -> &[u32]
     tree.chain(board.leaf(x))
 }
 
-// The held contract of a node that is the cheapest to displace there. The board is read by the clauses alone.
+// The held contract of a node that is the cheapest to displace there.
 pub(crate) fn cheapest_at(board: &Board, holding: &Holding, node: u32) -> Option<Removal>
     requires node { node < length board.now.nodes }
     requires kept { (places : List ℕ) × IsAllKept board.now places holding.now }
     ensures { IsBestAt board.now (held_in board.now holding.now) node result }
 {
     if (node as usize) < holding.leaves.len() {
-        return last_removal(&holding.leaves[node as usize]);
+        return last_removal(board, &holding.leaves[node as usize]);
     }
     holding.rivals[node as usize].best()
 }
@@ -109,7 +109,7 @@ fn mend(board: &Board, places: &[usize], holding: &mut Holding, x: u32)
     if chain.len() < 2 {
         return;
     }
-    let mut best = last_removal(&holding.leaves[board.leaf(x) as usize]);
+    let mut best = last_removal(board, &holding.leaves[board.leaf(x) as usize]);
     for i in 1..chain.len() {
         let inner = chain[i - 1];
         let entry = further(best, last_step(board, &holding.counts, inner));
@@ -117,12 +117,13 @@ fn mend(board: &Board, places: &[usize], holding: &mut Holding, x: u32)
     }
 }
 
-// Puts contract x in at its leaf.
+// Puts contract x in at its leaf, which has room for all that is feasible.
 fn enter_leaf(board: &Board, holding: &mut Holding, x: u32)
     requires contract { x < contract_count board.now }
     requires hospitals { HasHospitals board.now }
     requires leaves { AreLeaves board.now (held_in board.now holding.old) holding.old.leaves.items }
     requires new { IsFalse (has x (held_in board.now holding.old)) }
+    requires feasible { IsTrue (is_feasible board.now (with_one (held_in board.now holding.old) x)) }
     ensures leaves { AreLeaves board.now (with_one (held_in board.now holding.old) x) holding.new.leaves.items }
     ensures counts { holding.new.counts.items ≡ holding.old.counts.items }
     ensures nexts { holding.new.nexts.items ≡ holding.old.nexts.items }
@@ -130,7 +131,7 @@ fn enter_leaf(board: &Board, holding: &mut Holding, x: u32)
     ensures rivals { holding.new.rivals.items ≡ holding.old.rivals.items }
 {
     let leaf = &mut holding.leaves[board.leaf(x) as usize];
-    put_in(board, leaf, x);
+    put_in(leaf, x);
 }
 
 // Takes contract z out at its leaf, where it is the one of greatest number.
@@ -147,7 +148,7 @@ fn leave_leaf(board: &Board, holding: &mut Holding, z: u32)
     ensures rivals { holding.new.rivals.items ≡ holding.old.rivals.items }
 {
     let leaf = &mut holding.leaves[board.leaf(z) as usize];
-    take_greatest(board, leaf);
+    take_greatest(leaf);
 }
 
 // Marks contract x as held, or as not held.
@@ -162,11 +163,12 @@ fn mark(holding: &mut Holding, x: u32, held: bool)
     holding.marks[x as usize] = held;
 }
 
-// Holds contract x too.
+// Holds contract x too, where that is feasible.
 pub(crate) fn hold(board: &Board, places: &[usize], holding: &mut Holding, x: u32)
     requires contract { x < contract_count board.now }
     requires kept { IsAllKept board.now places.now holding.old }
     requires new { IsFalse (has x (held_in board.now holding.old)) }
+    requires feasible { IsTrue (is_feasible board.now (with_one (held_in board.now holding.old) x)) }
     ensures kept { IsAllKept board.now places.now holding.new }
     ensures held { held_in board.now holding.new ≡ with_one (held_in board.now holding.old) x }
 {
@@ -205,6 +207,7 @@ pub(crate) fn swap_at_leaf(
     requires kept { IsAllKept board.now places.now holding.old }
     requires new { IsFalse (has x (held_in board.now holding.old)) }
     requires last { IsLastHeld board.now (held_in board.now holding.old) (leaf_of board.now x) last }
+    requires feasible { IsTrue (is_feasible board.now (swapped (held_in board.now holding.old) x last)) }
     ensures kept { IsAllKept board.now places.now holding.new }
     ensures held { held_in board.now holding.new ≡ swapped (held_in board.now holding.old) x last }
 {

@@ -1,12 +1,12 @@
 // What is held of each hospital, the contract of greatest number on top, and how much it may hold.
 
-ghost use Rattle.std.specs.Prelude.{◌≡◌, ◌↔◌, ◌∷◌, ◌<◌, ◌≤◌, ℕ, List, [], length, get_or, All, IfOk, IfSome, IsTrue};
+ghost use Rattle.std.specs.Prelude.{◌≡◌, ◌↔◌, ◌∷◌, ◌<◌, ◌≤◌, ℕ, [], length, get_or, IfOk, IfSome, IsTrue};
 ghost use Rattle.std.specs.Ordering.{nat_cmp};
 ghost use Rattle.std.specs.List.Sorted.{IsPermutation};
 ghost use Rattle.std.specs.BinaryHeap.{heap_items, heap_len, heap_capacity, IsHeap, KeepsHeap};
 ghost use Rattle.rm_sets.specs.Sets.{IsIn, below};
 ghost use Rattle.rm_market.specs.Board.{contract_count, leaf_of, count_at};
-ghost use Rattle.rm_exchange.specs.Leaves.{IsGreatestOf, IsTieOf, IsOwnRemovalOf, AreLeaves};
+ghost use Rattle.rm_exchange.specs.Leaves.{IsGreatestOf, IsOwnRemovalOf, room_at, AreLeaves};
 
 use crate::removal::Removal;
 use rm_board::Board;
@@ -14,15 +14,13 @@ use rm_choice::NoMemory;
 use std::alloc::Global;
 use std::collections::BinaryHeap;
 
-// The held contracts of a hospital, how many its own node may hold, and the held contract of greatest number with its place in
-// tie order. That one is the cheapest to displace: no node lies inside a hospital's own, and of its contracts the greatest number
-// is the last in tie order.
+// The held contracts of a hospital, how many its own node may hold, and the held contract of greatest number. That one is the
+// cheapest to displace: no node lies inside a hospital's own, and of its contracts the greatest number is the last in tie order.
 #[derive(Drop)]
 pub struct Leaf {
     pub held: BinaryHeap<u32>,
     pub cap: u32,
     pub last: Option<u32>,
-    pub last_tie: u32,
 }
 
 impl Leaf {
@@ -35,15 +33,16 @@ impl Leaf {
 }
 
 // The removal of the last contract of a hospital, by itself, if it holds any.
-pub(crate) fn last_removal(leaf: &Leaf) -> Option<Removal>
-    ensures { (ties : List ℕ) → IsTieOf ties leaf.now.last leaf.now.last_tie → IsOwnRemovalOf ties leaf.now.last result }
+pub(crate) fn last_removal(board: &Board, leaf: &Leaf) -> Option<Removal>
+    requires { IfSome leaf.now.last (λ x. x < contract_count board.now) }
+    ensures { IsOwnRemovalOf board.now.ties leaf.now.last result }
 {
     let Some(x) = leaf.last else {
         return None;
     };
     Some(Removal {
         contract: x,
-        tie: leaf.last_tie,
+        tie: board.tie(x),
         loss: 0,
     })
 }
@@ -51,8 +50,7 @@ pub(crate) fn last_removal(leaf: &Leaf) -> Option<Removal>
 // The greatest number of a heap, if there is any.
 fn greatest(held: &BinaryHeap<u32>) -> Option<u32>
     requires { IsHeap nat_cmp (heap_items held.now) }
-    ensures greatest { IsGreatestOf (heap_items held.now) result }
-    ensures known { (n : ℕ) → All (λ x. x < n) (heap_items held.now) → IfSome result (λ x. x < n) }
+    ensures { IsGreatestOf (heap_items held.now) result }
 {
     let Some(x) = held.peek() else {
         return None;
@@ -61,15 +59,12 @@ fn greatest(held: &BinaryHeap<u32>) -> Option<u32>
 }
 
 // Holds contract x too.
-pub(crate) fn put_in(board: &Board, leaf: &mut Leaf, x: u32)
-    requires contract { x < contract_count board.now }
+pub(crate) fn put_in(leaf: &mut Leaf, x: u32)
     requires room { heap_len leaf.old.held < heap_capacity leaf.old.held }
     requires last { IsGreatestOf (heap_items leaf.old.held) leaf.old.last }
-    requires tie { IsTieOf board.now.ties leaf.old.last leaf.old.last_tie }
     ensures items { IsPermutation (x ∷ heap_items leaf.old.held) (heap_items leaf.new.held) }
     ensures order { KeepsHeap nat_cmp (heap_items leaf.old.held) (heap_items leaf.new.held) }
     ensures last { IsGreatestOf (heap_items leaf.new.held) leaf.new.last }
-    ensures tie { IsTieOf board.now.ties leaf.new.last leaf.new.last_tie }
     ensures cap { leaf.new.cap ≡ leaf.old.cap }
     ensures room { heap_capacity leaf.old.held ≤ heap_capacity leaf.new.held }
 {
@@ -82,25 +77,19 @@ pub(crate) fn put_in(board: &Board, leaf: &mut Leaf, x: u32)
         }
     }
     leaf.last = Some(x);
-    leaf.last_tie = board.tie(x);
 }
 
 // Lets the greatest contract go.
-pub(crate) fn take_greatest(board: &Board, leaf: &mut Leaf)
-    requires known { All (λ x. x < contract_count board.now) (heap_items leaf.old.held) }
-    requires order { IsHeap nat_cmp (heap_items leaf.old.held) }
+pub(crate) fn take_greatest(leaf: &mut Leaf)
+    requires { IsHeap nat_cmp (heap_items leaf.old.held) }
     ensures items { (z : ℕ) → IsIn z (heap_items leaf.old.held) → ((y : ℕ) → IsIn y (heap_items leaf.old.held) → y ≤ z) → IsPermutation (heap_items leaf.old.held) (z ∷ heap_items leaf.new.held) }
     ensures order { IsHeap nat_cmp (heap_items leaf.new.held) }
     ensures last { IsGreatestOf (heap_items leaf.new.held) leaf.new.last }
-    ensures tie { IsTieOf board.now.ties leaf.new.last leaf.new.last_tie }
     ensures cap { leaf.new.cap ≡ leaf.old.cap }
     ensures room { heap_capacity leaf.new.held ≡ heap_capacity leaf.old.held }
 {
     leaf.held.pop();
     leaf.last = greatest(&leaf.held);
-    if let Some(x) = leaf.last {
-        leaf.last_tie = board.tie(x);
-    }
 }
 
 // How many contracts each hospital has.
@@ -117,22 +106,24 @@ fn contracts_at(alloc: Global, board: &Board) -> Result<Vec<u32>, NoMemory>
     Ok(counts)
 }
 
-// Leaves that hold nothing, with room for all contracts of their hospitals.
+// Leaves that hold nothing, each with room for as many contracts as its hospital's own node may hold, or for all contracts of the
+// hospital, if these are fewer.
 pub(crate) fn empty_leaves(alloc: Global, board: &Board) -> Result<Vec<Leaf>, NoMemory>
     ensures none { IfOk result (λ leaves. AreLeaves board.now [] leaves.items) }
+    ensures room { IfOk result (λ leaves. (h : ℕ) (d : Leaf) → h < length board.now.ranks → heap_capacity (get_or leaves.items h d).held ≡ room_at board.now h) }
     ensures leaves { IfOk result (λ leaves. (x : ℕ) → x < contract_count board.now → leaf_of board.now x < length board.now.ranks) }
 {
     let counts = contracts_at(alloc, board)?;
     let tree = board.tree();
     let mut leaves = Vec::with_capacity(alloc, counts.len())?;
     for h in 0..tree.hospitals() {
-        let held = BinaryHeap::with_capacity(alloc, counts[h as usize] as usize)?;
         let cap = board.steps(h).cap();
+        let room = cap.min(counts[h as usize]);
+        let held = BinaryHeap::with_capacity(alloc, room as usize)?;
         leaves.push(Leaf {
             held,
             cap,
             last: None,
-            last_tie: 0,
         })?;
     }
     Ok(leaves)

@@ -1,6 +1,6 @@
 use Rattle.std.proofs.Common.{◌∙◌, sym, ap, refl, subst}
 use Rattle.rm_sets.specs.Sets.{has, with_one}
-use Rattle.rm_market.specs.Board.{contract_count, node_at}
+use Rattle.rm_market.specs.Board.{contract_count, node_at, is_feasible}
 use Rattle.rm_market.specs.Best.{swapped}
 use Rattle.rm_valuation_laws.specs.Scores.{place}
 use Rattle.rm_valuation_laws.specs.Changes.{test_at}
@@ -67,6 +67,20 @@ hold-requires-in-Swapped-clause-new c =
     let o = offered b c.args.places.now c.args.holding.now c.args.x c.walk-prospects.result c.requires.holding c.requires.contract c.requires.new c.walk-prospects.ensures in
     let best = swapped_best b H c.args.x c.walk-prospects.result o (place b.ties c.args.x) refl c.in-Swapped.z c.in-Swapped.ensures in
     ap (has c.args.x) c.release.ensures.held ∙ (without_other H c.in-Swapped.z c.args.x (λ e. apart H c.in-Swapped.z c.args.x best.0 c.requires.new (sym e)) ∙ c.requires.new)
+
+pub hold-requires-clause-feasible : goal.hold-requires-clause-feasible
+hold-requires-clause-feasible c =
+    let b = c.args.board.now in
+    let o = offered b c.args.places.now c.args.holding.now c.args.x c.walk-prospects.result c.requires.holding c.requires.contract c.requires.new c.walk-prospects.ensures in
+    (kept_best b (held_in b c.args.holding.now) c.args.x c.walk-prospects.result o c.in-Kept.ensures).feasible
+
+pub hold-requires-in-Swapped-clause-feasible : goal.hold-requires-in-Swapped-clause-feasible
+hold-requires-in-Swapped-clause-feasible c =
+    let b = c.args.board.now in
+    let H = held_in b c.args.holding.now in
+    let o = offered b c.args.places.now c.args.holding.now c.args.x c.walk-prospects.result c.requires.holding c.requires.contract c.requires.new c.walk-prospects.ensures in
+    let best = swapped_best b H c.args.x c.walk-prospects.result o (place b.ties c.args.x) refl c.in-Swapped.z c.in-Swapped.ensures in
+    ap (λ S. is_feasible b (with_one S c.args.x)) c.release.ensures.held ∙ best.1.feasible
 
 pub returns-in-Kept-clause-holding : goal.returns-in-Kept-clause-holding
 returns-in-Kept-clause-holding c =

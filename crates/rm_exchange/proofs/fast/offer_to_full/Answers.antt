@@ -33,6 +33,13 @@ swap_at_leaf-requires-clause-last c =
     let leaf = leaf_of_full b h c.args.x c.leaf.result c.index.result.now c.requires.holding.kept.leaves c.leaf.ensures.leaf c.leaf.ensures.below c.index.ensures c.requires.full in
     last_held b plan (held_in b h) (leaf_of b c.args.x) (plan.leaf c.args.x c.requires.contract) c.index.result.now leaf.kept c.in-Some.last c.in-Some.is
 
+pub swap_at_leaf-requires-clause-feasible : goal.swap_at_leaf-requires-clause-feasible
+swap_at_leaf-requires-clause-feasible c =
+    let b = c.args.board.now in
+    let h = c.args.holding.now in
+    let leaf = leaf_of_full b h c.args.x c.leaf.result c.index.result.now c.requires.holding.kept.leaves c.leaf.ensures.leaf c.leaf.ensures.below c.index.ensures c.requires.full in
+    (full_swapped b c.args.places.now h c.args.x c.in-Some.last c.index.result.now c.requires.holding c.requires.contract c.requires.new leaf c.in-Some.is c.if-last-x.false).feasible
+
 pub returns-clause-holding : goal.returns-clause-holding
 returns-clause-holding c =
     let b = c.args.board.now in

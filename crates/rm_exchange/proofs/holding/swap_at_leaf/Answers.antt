@@ -1,7 +1,7 @@
 use Rattle.std.proofs.Common.{◌∙◌, set, true, false, length, sym, ap, subst, arith}
 use Rattle.std.proofs.lemmas.List.{length-set}
 use Rattle.rm_sets.specs.Sets.{has, with_one, without}
-use Rattle.rm_market.specs.Board.{contract_count}
+use Rattle.rm_market.specs.Board.{contract_count, is_feasible}
 use Rattle.rm_valuation_laws.proofs.Moves.{without_other, apart}
 use Rattle.rm_exchange.specs.Leaves.{AreLeaves}
 use Rattle.rm_exchange.specs.Holding.{held_in, held_of}
@@ -37,6 +37,15 @@ enter_leaf-requires-clause-new c =
     let lz = (held_set n old.marks.items).below c.args.last c.requires.last.held in
     let less = ap (held_of n) (c.mark.ensures.marks ∙ ap (λ m. set m c.args.last false) c.leave_leaf.ensures.marks) ∙ held_without n old.marks.items c.args.last c.requires.kept.all_marked lz in
     ap (has c.args.x) less ∙ (without_other H c.args.last c.args.x (λ e. apart H c.args.last c.args.x c.requires.last.held c.requires.new (sym e)) ∙ c.requires.new)
+
+pub enter_leaf-requires-clause-feasible : goal.enter_leaf-requires-clause-feasible
+enter_leaf-requires-clause-feasible c =
+    let b = c.args.board.now in
+    let n = contract_count b in
+    let old = c.args.holding.now in
+    let lz = (held_set n old.marks.items).below c.args.last c.requires.last.held in
+    let less = ap (held_of n) (c.mark.ensures.marks ∙ ap (λ m. set m c.args.last false) c.leave_leaf.ensures.marks) ∙ held_without n old.marks.items c.args.last c.requires.kept.all_marked lz in
+    ap (λ S. is_feasible b (with_one S c.args.x)) less ∙ c.requires.feasible
 
 pub mend-requires-clause-contract : goal.mend-requires-clause-contract
 mend-requires-clause-contract c = (held_set (contract_count c.args.board.now) c.args.holding.now.marks.items).below c.args.last c.requires.last.held

@@ -1,4 +1,4 @@
-use Rattle.std.proofs.Common.{◌≡◌, ◌∙◌, ◌≤◌, length, sym, arith}
+use Rattle.std.proofs.Common.{arith}
 use Rattle.rm_laminar.proofs.Trees.{tree-length}
 use Rattle.rm_exchange.proofs.NestedGroups.{nested_board}
 use Rattle.rm_exchange.proofs.fast.tests.board_of_row.Goals as goal
