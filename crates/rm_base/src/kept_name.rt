@@ -33,7 +33,7 @@ impl<'a> KeptName<'a> {
     }
 
     // The bytes of the name.
-    fn as_bytes(&self) -> &[u8]
+    pub(crate) fn as_bytes(&self) -> &[u8]
         ensures { result.now ≡ kept_text self.now }
     {
         match self {

@@ -1,14 +1,16 @@
 //! Names with their numbers, places of doctors, and refusals.
 #![tactic(auto)]
 
-ghost use Rattle.std.specs.Prelude.{◌≡◌, ◌<◌, ◌≤◌, ◌+◌, ℕ, List, [], ◌∷◌, ◌++◌, length, map, string_bytes, slice_get, set, replicate, Some, None, IfOk};
+ghost use Rattle.std.specs.Prelude.{◌≡◌, ◌<◌, ◌≤◌, ◌+◌, ℕ, List, [], ◌∷◌, ◌++◌, length, map, string_bytes, slice_get, set, replicate, Some, None, IfOk, IfSome, IsTrue, ◌↔◌};
 ghost use Rattle.rm_base.specs.Names.{place_of, Adds, AreDistinct};
 
 pub mod codes;
+mod guesses;
 mod kept_name;
 mod short_name;
 pub mod text;
 
+use guesses::Guesses;
 use indexmap::IndexSet;
 use kept_name::KeptName;
 use std::alloc::{AllocError, Global};
@@ -55,6 +57,8 @@ pub enum Added {
 #[derive(Drop)]
 pub struct Names {
     set: IndexSet<KeptName<'static>>,
+    // Guesses at the numbers of names. Each is compared before it is believed.
+    guesses: Guesses,
 }
 
 impl Model for Names {
@@ -76,6 +80,7 @@ impl Names {
     {
         Names {
             set: IndexSet::new(alloc),
+            guesses: Guesses::new(alloc),
         }
     }
 
@@ -84,34 +89,77 @@ impl Names {
         ensures { IfOk result (λ names. names ≡ []) }
     {
         let set = IndexSet::with_capacity(alloc, count as usize)?;
-        Ok(Names { set })
+        let guesses = Guesses::with_capacity(alloc, count)?;
+        Ok(Names { set, guesses })
     }
 
     /// Adds a name that is not held, as the last; fewer than 4,000,000,000 are held. Where it is held, its number is answered
     /// and nothing changes.
-    #[tactic(auto, using(crate::proofs::TextLemmas::position_map, std::proofs::lemmas::Grind::common_steps))]
     pub fn add(&mut self, name: &str) -> Added
         requires { length self.old < 4_000_000_000 }
         ensures { Adds self.old name.now self.new result }
     {
-        if let Some(n) = self.set.get_index_of(&KeptName::Lent(name)) {
-            return Added::There(n as u32);
-        }
         let alloc = *self.set.allocator();
         let Ok(kept) = KeptName::new(alloc, name) else {
+            return match self.find(name) {
+                Some(n) => Added::There(n),
+                None => Added::NoMemory,
+            };
+        };
+        let Ok((n, is_new)) = self.set.insert_full(kept) else {
             return Added::NoMemory;
         };
-        let Ok((n, _)) = self.set.insert_full(kept) else {
-            return Added::NoMemory;
-        };
+        if !is_new {
+            return Added::There(n as u32);
+        }
+        self.guesses.note(name.as_bytes(), n as u32);
         Added::Added(n as u32)
     }
 
     /// The number of a name. None exactly where it is not held.
-    #[tactic(auto, using(crate::proofs::TextLemmas::position_map))]
     pub fn find(&self, name: &str) -> Option<u32>
         ensures { result ≡ place_of self.now name.now }
     {
+        self.find_from(name, self.guess(name))
+    }
+
+    /// A number to look at first for a name, found at small cost. Where the name is held it is mostly its number, though
+    /// it may be another's. To guess for many names before any is found is faster than to find each.
+    pub fn guess(&self, name: &str) -> Option<u32>
+        ensures { IfSome result (λ n. n < length self.now) }
+    {
+        match self.guesses.get(name.as_bytes()) {
+            Some(n) if n < self.len() => Some(n),
+            _ => None,
+        }
+    }
+
+    // The bytes of the name with the number n.
+    fn bytes(&self, n: u32) -> &[u8]
+        requires { n < length self.now }
+        ensures { slice_get self.now n ≡ Some result.now }
+    {
+        self.set.as_slice()[n as usize].as_bytes()
+    }
+
+    // Whether this is the name with the number n.
+    fn is_at(&self, n: u32, name: &str) -> bool
+        ensures named { IsTrue result ↔ (slice_get self.now n ≡ Some name.now) }
+        ensures found { IsTrue result → place_of self.now name.now ≡ Some n }
+    {
+        n < self.len() && self.bytes(n) == name.as_bytes()
+    }
+
+    /// The number of a name, looked for at a guess first, whatever the guess is. None exactly where the name is not held.
+    #[tactic(auto, using(crate::proofs::TextLemmas::position_map))]
+    pub fn find_from(&self, name: &str, guess: Option<u32>) -> Option<u32>
+        ensures { result ≡ place_of self.now name.now }
+    {
+        if let Some(n) = guess {
+            if self.is_at(n, name) {
+                return Some(n);
+            }
+        }
         match self.set.get_index_of(&KeptName::Lent(name)) {
             None => None,
             Some(n) => Some(n as u32),

@@ -68,6 +68,57 @@ fn keeps_long_names(rt: HostRuntime) -> Result<(), Fail> {
     Ok(())
 }
 
+// Whether a name is found alike, or not at all, from its guess, from none, and from guesses that are wrong.
+fn finds(names: &Names, name: &str, found: Option<u32>) -> bool {
+    let guesses = [names.guess(name), None, Some(0), Some(1), Some(u32::MAX)];
+    guesses
+        .iter()
+        .all(|guess| names.find_from(name, *guess) == found)
+}
+
+// Whether two names that are added to none are found from any guess, and a third is not.
+fn finds_two(mut names: Names) -> bool {
+    if names.len() > 0 {
+        return false;
+    }
+    let first = names.add("Ames");
+    let second = names.add("Bell");
+    if first != Added::Added(0) || second != Added::Added(1) {
+        return false;
+    }
+    finds(&names, "Ames", Some(0)) && finds(&names, "Bell", Some(1)) && finds(&names, "Cole", None)
+}
+
+#[test]
+fn finds_from_any_guess(rt: HostRuntime) -> Result<(), Fail> {
+    assert!(rt; finds_two(Names::new(rt.alloc())));
+    assert!(rt; finds_two(Names::with_capacity(rt.alloc(), 0)?));
+    assert!(rt; finds_two(Names::with_capacity(rt.alloc(), 2)?));
+    Ok(())
+}
+
+#[test]
+fn guesses_the_last_name(rt: HostRuntime) -> Result<(), Fail> {
+    let mut names = Names::with_capacity(rt.alloc(), 2)?;
+    let _first = names.add("Ames");
+    let _second = names.add("Bell");
+    assert!(rt; names.guess("Bell") == Some(1));
+    Ok(())
+}
+
+#[test]
+fn guesses_most_names(rt: HostRuntime) -> Result<(), Fail> {
+    let mut guesses = Guesses::with_capacity(rt.alloc(), 1000)?;
+    for n in 0..1000u32 {
+        guesses.note(&n.to_be_bytes(), n);
+    }
+    let right = (0..1000u32)
+        .filter(|n| guesses.get(&n.to_be_bytes()) == Some(*n))
+        .count();
+    assert!(rt; right >= 800);
+    Ok(())
+}
+
 #[test]
 fn keeps_places(rt: HostRuntime) -> Result<(), Fail> {
     let mut places = Places::empty(rt.alloc(), 3)?;

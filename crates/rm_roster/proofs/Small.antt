@@ -4,7 +4,7 @@ use Rattle.rm_base.specs.Checks.{first_of}
 use Rattle.rm_base.specs.Codes.{refuse}
 use Rattle.rm_base.specs.Text.{Text}
 use Rattle.rm_table.specs.Rows.{Row}
-use Rattle.rm_roster.specs.Roster.{RosterData, roster_checks, roster_of}
+use Rattle.rm_roster.specs.Roster.{roster_checks, roster_of}
 use Rattle.rm_roster.proofs.OnLiterals.{roster_on_literals}
 
 hospitals : List Row

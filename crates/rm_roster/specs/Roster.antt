@@ -1,5 +1,5 @@
 -- What the files of hospitals, doctors and rank lists say, or their first refusal.
-use Rattle.std.specs.Prelude.{◌≡◌, ℕ, ◌≤◌, ◌<◌, ◌==◌, List, ◌++◌, map, length, sum, All, Option}
+use Rattle.std.specs.Prelude.{◌≡◌, ℕ, ◌≤◌, ◌<◌, List, ◌++◌, map, length, sum, All, Option}
 use Rattle.std.specs.List.{sum_by, AllZip}
 use Rattle.rm_base.specs.Lists.{IsListBelow}
 use Rattle.rm_base.specs.Names.{AreDistinct}

@@ -22,10 +22,11 @@ use rm_table::{Row, Table};
 use std::alloc::Global;
 use std::marker::Model;
 
-// Reads a row, after the names and the lists of the rows before it.
+// Reads a row, after the names and the lists of the rows before it. `guesses` is room for the work.
 fn read_doctor(
     row: &Row<'_>,
     hospitals: &Names,
+    guesses: &mut Vec<Option<u32>>,
     names: &mut Names,
     lists: &mut ListsBuilder,
 ) -> Result<(), RosterFault>
@@ -58,7 +59,15 @@ fn read_doctor(
     let Ok(()) = lists.row(place, i) else {
         unreachable!()
     };
-    read_items(row, DOCTORS_FILE, CHOICES_LIMIT, i, hospitals, lists)
+    read_items(
+        row,
+        DOCTORS_FILE,
+        CHOICES_LIMIT,
+        i,
+        hospitals,
+        guesses,
+        lists,
+    )
 }
 
 /// The doctors of a file, and the list of each.
@@ -117,8 +126,15 @@ impl Doctors {
         let Ok(mut names) = Names::with_capacity(alloc, count) else {
             return Err(RosterFault::NoMemory);
         };
+        let mut guesses = Vec::new(alloc);
         for i in 1..table.rows() {
-            read_doctor(&table.row(i), hospitals, &mut names, &mut lists)?;
+            read_doctor(
+                &table.row(i),
+                hospitals,
+                &mut guesses,
+                &mut names,
+                &mut lists,
+            )?;
         }
         let Ok(lists) = lists.finish(alloc) else {
             return Err(RosterFault::NoMemory);

@@ -1,38 +1,34 @@
 // The items of a row.
 
-ghost use Rattle.std.specs.Prelude.{◌≡◌, ◌+◌, ◌<◌, ◌≤◌, List, [], length, IsSome, IfSome};
+ghost use Rattle.std.specs.Prelude.{◌≡◌, ◌+◌, ◌-◌, ◌<◌, ◌≤◌, List, [], length, IsSome, IfSome, OnOk};
 ghost use Rattle.rm_base.specs.Checks.{first_of};
 ghost use Rattle.rm_base.specs.Reading.{Grows};
 ghost use Rattle.rm_ranks.specs.Built.{ListsTold, last_list, with_items};
-ghost use Rattle.rm_roster.specs.Items.{cell_checks, list_checks, item_of, list_in};
+ghost use Rattle.rm_roster.specs.Items.{number_checks, list_checks, list_in};
 ghost use Rattle.rm_roster.specs.Readings.{with_item};
 
 use crate::RosterFault;
 use crate::cells::refused;
-use rm_base::Names;
 use rm_base::codes::{MOST_CHOICES, REPEATED_CHOICE, TOO_MANY, UNKNOWN_NAME};
+use rm_base::{Names, NoMemory};
 use rm_ranks::{ListFault, ListsBuilder};
 use rm_table::Row;
 
-// Reads a cell in field j of row i into the list begun last.
-fn read_item(
-    cell: &str,
+// Puts the item of field j of row i, which is None where its cell names nothing, into the list begun last.
+fn push_item(
+    item: Option<u32>,
     file: u8,
     limit: u64,
     i: u64,
     j: u64,
-    names: &Names,
     lists: &mut ListsBuilder,
 ) -> Result<(), RosterFault>
     requires begun { IsSome lists.old.at }
-    requires items { length names.now ≤ lists.old.items }
+    requires item { IfSome item (λ n. n < lists.old.items) }
     requires limit { lists.old.limit ≡ MOST_CHOICES }
-    ensures { Grows (first_of (cell_checks file limit names.now i j (last_list lists.old) lists.old.held cell.now)) (with_item lists.old (item_of names.now cell.now)) lists.new result }
+    ensures { Grows (first_of (number_checks file limit i j (last_list lists.old) lists.old.held item)) (with_item lists.old item) lists.new result }
 {
-    if cell.is_empty() {
-        return Ok(());
-    }
-    let Some(n) = names.find(cell) else {
+    let Some(n) = item else {
         return Err(refused(UNKNOWN_NAME, file, i, j));
     };
     match lists.push(n) {
@@ -43,14 +39,26 @@ fn read_item(
     }
 }
 
+// Guesses the number of each cell past the first. None of the guesses waits for another, as look-ups would.
+fn guess_items(row: &Row<'_>, names: &Names, guesses: &mut Vec<Option<u32>>) -> Result<(), NoMemory>
+    ensures { OnOk result (length guesses.new.items ≡ length row.now - 1) }
+{
+    guesses.clear();
+    for j in 1..row.len() {
+        guesses.push(names.guess(row.cell(j)))?;
+    }
+    Ok(())
+}
+
 /// Reads the cells of row i past the first into the list begun last, which is empty. `limit` is the number of the limit
-/// on the items of this file.
+/// on the items of this file. `guesses` is room for the work, and what it holds before does not matter.
 pub fn read_items(
     row: &Row<'_>,
     file: u8,
     limit: u64,
     i: u64,
     names: &Names,
+    guesses: &mut Vec<Option<u32>>,
     lists: &mut ListsBuilder,
 ) -> Result<(), RosterFault>
     requires begun { IsSome lists.old.at }
@@ -60,8 +68,16 @@ pub fn read_items(
     requires limit { lists.old.limit ≡ MOST_CHOICES }
     ensures { Grows (first_of (list_checks file limit names.now i lists.old.held row.now)) (with_items lists.old (list_in names.now row.now)) lists.new result }
 {
+    if guess_items(row, names, guesses).is_err() {
+        return Err(RosterFault::NoMemory);
+    }
     for j in 1..row.len() {
-        read_item(row.cell(j), file, limit, i, j as u64 + 1, names, lists)?;
+        let cell = row.cell(j);
+        if cell.is_empty() {
+            continue;
+        }
+        let item = names.find_from(cell, guesses[j - 1]);
+        push_item(item, file, limit, i, j as u64 + 1, lists)?;
     }
     Ok(())
 }

@@ -20,12 +20,13 @@ use rm_ranks::{ListFault, Lists, ListsBuilder};
 use rm_table::{Row, Table};
 use std::alloc::Global;
 
-// Reads row i, after the lists of the rows before it, and answers its hospital.
+// Reads row i, after the lists of the rows before it, and answers its hospital. `guesses` is room for the work.
 fn read_rank(
     row: &Row<'_>,
     i: u64,
     hospitals: &Names,
     doctors: &Names,
+    guesses: &mut Vec<Option<u32>>,
     lists: &mut ListsBuilder,
 ) -> Result<u32, RosterFault>
     requires room { length hospitals.now ≤ length lists.old.lists }
@@ -46,7 +47,7 @@ fn read_rank(
         }
         Err(_) => return Err(RosterFault::NoMemory),
     }
-    match read_items(row, RANKS_FILE, RANKED_LIMIT, i, doctors, lists) {
+    match read_items(row, RANKS_FILE, RANKED_LIMIT, i, doctors, guesses, lists) {
         Ok(()) => Ok(h),
         Err(fault) => Err(fault),
     }
@@ -69,8 +70,16 @@ fn read_rows(
     ) else {
         return Err(RosterFault::NoMemory);
     };
+    let mut guesses = Vec::new(alloc);
     for i in 1..table.rows() {
-        match read_rank(&table.row(i), i as u64, hospitals, doctors, &mut lists) {
+        match read_rank(
+            &table.row(i),
+            i as u64,
+            hospitals,
+            doctors,
+            &mut guesses,
+            &mut lists,
+        ) {
             Ok(_) => {}
             Err(fault) => return Err(fault),
         }
