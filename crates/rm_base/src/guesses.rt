@@ -1,64 +1,129 @@
 // Guesses of the numbers of names.
 
+ghost use Rattle.std.specs.Prelude.{◌≡◌, length};
+
 use crate::NoMemory;
 use std::alloc::Global;
+use std::hash::{FoldHasher, Hasher};
+use std::marker::Model;
 
-// What the hash FNV-1a starts from.
-const HASH_START: u64 = 14_695_981_039_346_656_037;
+// How many names a bucket has room for.
+const ROOM: usize = 4;
 
-// What the hash FNV-1a multiplies by at each byte.
-const HASH_MULTIPLIER: u64 = 1_099_511_628_211;
-
-// The most names that a table is made for. A wider table would miss the cache as often as the names do.
-const MOST_GUESSED: usize = 1_000_000;
+// The most names that buckets are made for. More buckets would miss the cache as often as the names do.
+const MOST_GUESSED: u32 = 1_000_000;
 
 // A cheap hash of a name.
 fn hash(name: &[u8]) -> u64 {
-    let mut hash = HASH_START;
-    for byte in name {
-        hash = (hash ^ *byte as u64).wrapping_mul(HASH_MULTIPLIER);
-    }
-    (hash >> 32) ^ hash
+    let mut hasher = FoldHasher::default();
+    hasher.write(name);
+    hasher.finish()
 }
 
-/// A table from a cheap hash of a name to the number noted there last. Names may share a place, so that a number is a hint
-/// alone.
+/// What the number of a name is guessed by: a cheap hash of it, and its length. Contracts see its length alone.
+#[derive(Drop)]
+pub struct Clue {
+    hash: u64,
+    len: usize,
+}
+
+impl Model for Clue {
+    ghost use Rattle.std.specs.Prelude.{ℕ};
+
+    ghost Value = { ℕ };
+
+    ghost view = { λ c. c.len };
+}
+
+impl Clue {
+    /// The clue of a name.
+    pub fn of(name: &str) -> Clue
+        ensures { result ≡ length name.now }
+    {
+        Clue {
+            hash: hash(name.as_bytes()),
+            len: name.len(),
+        }
+    }
+
+    /// The length of the name in bytes.
+    pub fn len(&self) -> usize
+        ensures { result ≡ self.now }
+    {
+        self.len
+    }
+
+    // What a bucket notes of the name, so that few names in it look alike. It is never 0.
+    fn tag(&self) -> u8 {
+        (self.hash >> 57) as u8 | 0x80
+    }
+}
+
+// Up to four names whose hashes end alike: of each its tag, which is 0 where no name is noted, and its number.
+#[derive(Clone, Copy)]
+struct Bucket {
+    tags: [u8; ROOM],
+    numbers: [u32; ROOM],
+}
+
+/// A table from clues of names to numbers noted for them. Names may look alike, and one that finds its bucket full is not
+/// noted, so that a number is a hint alone.
 #[derive(Drop)]
 pub struct Guesses {
-    // One place for each hash, its number being 0 before one is noted; none, or a power of two.
-    numbers: Vec<u32>,
+    // None, or a power of two, which the end of a hash chooses from.
+    buckets: Vec<Bucket>,
 }
 
 impl Guesses {
-    /// Has no place, and guesses nothing.
+    /// Has no bucket, and guesses nothing.
     pub fn new(alloc: Global) -> Guesses {
         Guesses {
-            numbers: Vec::new(alloc),
+            buckets: Vec::new(alloc),
         }
     }
 
-    /// Has places enough for so many names, from 0. NoMemory is the one error.
+    /// Has buckets enough for so many names, from 0. NoMemory is the one error.
     pub fn with_capacity(alloc: Global, count: u32) -> Result<Guesses, NoMemory> {
-        let places = (count as usize).min(MOST_GUESSED) * 4;
-        let numbers = vec![in alloc; 0; places.next_power_of_two()]?;
-        Ok(Guesses { numbers })
+        let empty = Bucket {
+            tags: [0; ROOM],
+            numbers: [0; ROOM],
+        };
+        let wanted = count.min(MOST_GUESSED) as usize / 2 + 1;
+        let buckets = vec![in alloc; empty; wanted.next_power_of_two()]?;
+        Ok(Guesses { buckets })
     }
 
-    // The place of a name, if there is any.
-    fn place(&self, name: &[u8]) -> usize {
-        hash(name) as usize & self.numbers.len().wrapping_sub(1)
+    // The place of the bucket of a name, if there is any.
+    fn place(&self, clue: &Clue) -> usize {
+        clue.hash as usize & self.buckets.len().wrapping_sub(1)
     }
 
-    /// Notes the number of a name.
-    pub fn note(&mut self, name: &[u8], number: u32) {
-        let place = self.place(name);
-        if let Some(noted) = self.numbers.get_mut(place) {
-            *noted = number;
+    /// Notes the number of a name, where its bucket has room.
+    pub fn note(&mut self, clue: &Clue, number: u32) {
+        let place = self.place(clue);
+        let Some(bucket) = self.buckets.get_mut(place) else {
+            return;
+        };
+        for k in 0..ROOM {
+            if bucket.tags[k] == 0 {
+                bucket.tags[k] = clue.tag();
+                bucket.numbers[k] = number;
+                return;
+            }
         }
     }
 
-    /// The number noted last at the place of a name.
-    pub fn get(&self, name: &[u8]) -> Option<u32> {
-        self.numbers.get(self.place(name)).copied()
+    /// The number noted first for a name, or for one that looks like it.
+    pub fn get(&self, clue: &Clue) -> Option<u32> {
+        let bucket = self.buckets.get(self.place(clue))?;
+        let wanted = clue.tag();
+        // No step depends on what an earlier one finds, so that none is predicted wrongly.
+        let mut found = ROOM;
+        for k in (0..ROOM).rev() {
+            if bucket.tags[k] == wanted {
+                found = k;
+            }
+        }
+        bucket.numbers.get(found).copied()
     }
 }

@@ -1,7 +1,7 @@
 //! Names with their numbers, places of doctors, and refusals.
 #![tactic(auto)]
 
-ghost use Rattle.std.specs.Prelude.{◌≡◌, ◌<◌, ◌≤◌, ◌+◌, ℕ, List, [], ◌∷◌, ◌++◌, length, map, string_bytes, slice_get, set, replicate, Some, None, IfOk, IfSome, IsTrue, ◌↔◌};
+ghost use Rattle.std.specs.Prelude.{◌≡◌, ◌<◌, ◌≤◌, ◌+◌, ℕ, List, [], ◌∷◌, ◌++◌, length, map, string_bytes, slice_get, option_map, set, replicate, Some, None, IfOk, IfSome, IsTrue, ◌↔◌};
 ghost use Rattle.rm_base.specs.Names.{place_of, Adds, AreDistinct};
 
 pub mod codes;
@@ -10,6 +10,7 @@ mod kept_name;
 mod short_name;
 pub mod text;
 
+pub use guesses::Clue;
 use guesses::Guesses;
 use indexmap::IndexSet;
 use kept_name::KeptName;
@@ -106,13 +107,14 @@ impl Names {
                 None => Added::NoMemory,
             };
         };
+        // Noted first, so that the bucket comes from memory while the set is asked. A name that is held keeps its first note.
+        self.guesses.note(&Clue::of(name), self.set.len() as u32);
         let Ok((n, is_new)) = self.set.insert_full(kept) else {
             return Added::NoMemory;
         };
         if !is_new {
             return Added::There(n as u32);
         }
-        self.guesses.note(name.as_bytes(), n as u32);
         Added::Added(n as u32)
     }
 
@@ -120,15 +122,15 @@ impl Names {
     pub fn find(&self, name: &str) -> Option<u32>
         ensures { result ≡ place_of self.now name.now }
     {
-        self.find_from(name, self.guess(name))
+        self.find_from(name, self.guess(&Clue::of(name)))
     }
 
     /// A number to look at first for a name, found at small cost. Where the name is held it is mostly its number, though
     /// it may be another's. To guess for many names before any is found is faster than to find each.
-    pub fn guess(&self, name: &str) -> Option<u32>
+    pub fn guess(&self, clue: &Clue) -> Option<u32>
         ensures { IfSome result (λ n. n < length self.now) }
     {
-        match self.guesses.get(name.as_bytes()) {
+        match self.guesses.get(clue) {
             Some(n) if n < self.len() => Some(n),
             _ => None,
         }
@@ -148,6 +150,14 @@ impl Names {
         ensures found { IsTrue result → place_of self.now name.now ≡ Some n }
     {
         n < self.len() && self.bytes(n) == name.as_bytes()
+    }
+
+    /// Whether there is a name with the number n, and it is as long as the name of a clue. To ask this of many guesses, before
+    /// any is compared in full, brings their names from memory in one wait for all.
+    pub fn fits(&self, n: u32, clue: &Clue) -> bool
+        ensures { IsTrue result ↔ (option_map length (slice_get self.now n) ≡ Some clue.now) }
+    {
+        n < self.len() && self.bytes(n).len() == clue.len()
     }
 
     /// The number of a name, looked for at a guess first, whatever the guess is. None exactly where the name is not held.

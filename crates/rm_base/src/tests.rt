@@ -70,7 +70,13 @@ fn keeps_long_names(rt: HostRuntime) -> Result<(), Fail> {
 
 // Whether a name is found alike, or not at all, from its guess, from none, and from guesses that are wrong.
 fn finds(names: &Names, name: &str, found: Option<u32>) -> bool {
-    let guesses = [names.guess(name), None, Some(0), Some(1), Some(u32::MAX)];
+    let guesses = [
+        names.guess(&Clue::of(name)),
+        None,
+        Some(0),
+        Some(1),
+        Some(u32::MAX),
+    ];
     guesses
         .iter()
         .all(|guess| names.find_from(name, *guess) == found)
@@ -102,20 +108,39 @@ fn guesses_the_last_name(rt: HostRuntime) -> Result<(), Fail> {
     let mut names = Names::with_capacity(rt.alloc(), 2)?;
     let _first = names.add("Ames");
     let _second = names.add("Bell");
-    assert!(rt; names.guess("Bell") == Some(1));
+    assert!(rt; names.guess(&Clue::of("Bell")) == Some(1));
     Ok(())
+}
+
+// The clues of the names Dr. 0, Dr. 1, and so on.
+fn clues(alloc: Global, count: u32) -> Result<Vec<Clue>, NoMemory> {
+    let mut clues = Vec::new(alloc);
+    for n in 0..count {
+        let name = format!(in alloc; "Dr. {n}")?;
+        clues.push(Clue::of(&name))?;
+    }
+    Ok(clues)
+}
+
+// Whether the number of a clue is guessed rightly.
+fn is_guessed(guesses: &Guesses, clues: &[Clue], n: u32) -> bool {
+    match clues.get(n as usize) {
+        Some(clue) => guesses.get(clue) == Some(n),
+        None => false,
+    }
 }
 
 #[test]
 fn guesses_most_names(rt: HostRuntime) -> Result<(), Fail> {
+    let clues = clues(rt.alloc(), 1000)?;
     let mut guesses = Guesses::with_capacity(rt.alloc(), 1000)?;
-    for n in 0..1000u32 {
-        guesses.note(&n.to_be_bytes(), n);
+    for (n, clue) in (0..1000u32).zip(&clues) {
+        guesses.note(clue, n);
     }
     let right = (0..1000u32)
-        .filter(|n| guesses.get(&n.to_be_bytes()) == Some(*n))
+        .filter(|n| is_guessed(&guesses, &clues, *n))
         .count();
-    assert!(rt; right >= 800);
+    assert!(rt; right >= 900);
     Ok(())
 }
 

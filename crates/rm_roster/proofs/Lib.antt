@@ -10,4 +10,5 @@ mod NumberLemmas
 mod NumberedTexts
 pub mod OnLiterals
 mod RankRows
+mod RowNumbers
 mod Small

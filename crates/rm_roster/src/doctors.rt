@@ -10,7 +10,7 @@ ghost use Rattle.rm_roster.specs.Doctors.{doctor_checks, doctor_checks_after, do
 
 use crate::RosterFault;
 use crate::cells::{refused, wrong_cell};
-use crate::items::read_items;
+use crate::items::{Search, read_items};
 use rm_base::codes::{
     BAD_NAME, CHOICES_LIMIT, DOCTORS_FILE, DOCTORS_LIMIT, MOST_CHOICES, MOST_DOCTORS,
     REPEATED_NAME, TOO_MANY, WRONG_HEADER,
@@ -22,11 +22,11 @@ use rm_table::{Row, Table};
 use std::alloc::Global;
 use std::marker::Model;
 
-// Reads a row, after the names and the lists of the rows before it. `guesses` is room for the work.
+// Reads a row, after the names and the lists of the rows before it. `search` is room for the work.
 fn read_doctor(
     row: &Row<'_>,
     hospitals: &Names,
-    guesses: &mut Vec<Option<u32>>,
+    search: &mut Search,
     names: &mut Names,
     lists: &mut ListsBuilder,
 ) -> Result<(), RosterFault>
@@ -65,7 +65,7 @@ fn read_doctor(
         CHOICES_LIMIT,
         i,
         hospitals,
-        guesses,
+        search,
         lists,
     )
 }
@@ -126,12 +126,12 @@ impl Doctors {
         let Ok(mut names) = Names::with_capacity(alloc, count) else {
             return Err(RosterFault::NoMemory);
         };
-        let mut guesses = Vec::new(alloc);
+        let mut search = Search::new(alloc);
         for i in 1..table.rows() {
             read_doctor(
                 &table.row(i),
                 hospitals,
-                &mut guesses,
+                &mut search,
                 &mut names,
                 &mut lists,
             )?;

@@ -11,7 +11,7 @@ ghost use Rattle.rm_roster.specs.Ranks.{rank_checks, rank_checks_after, rank_tab
 
 use crate::RosterFault;
 use crate::cells::{refused, wrong_cell};
-use crate::items::read_items;
+use crate::items::{Search, read_items};
 use rm_base::Names;
 use rm_base::codes::{
     MOST_CHOICES, RANKED_LIMIT, RANKS_FILE, REPEATED_ROW, UNKNOWN_NAME, WRONG_HEADER,
@@ -20,13 +20,13 @@ use rm_ranks::{ListFault, Lists, ListsBuilder};
 use rm_table::{Row, Table};
 use std::alloc::Global;
 
-// Reads row i, after the lists of the rows before it, and answers its hospital. `guesses` is room for the work.
+// Reads row i, after the lists of the rows before it, and answers its hospital. `search` is room for the work.
 fn read_rank(
     row: &Row<'_>,
     i: u64,
     hospitals: &Names,
     doctors: &Names,
-    guesses: &mut Vec<Option<u32>>,
+    search: &mut Search,
     lists: &mut ListsBuilder,
 ) -> Result<u32, RosterFault>
     requires room { length hospitals.now ≤ length lists.old.lists }
@@ -47,7 +47,7 @@ fn read_rank(
         }
         Err(_) => return Err(RosterFault::NoMemory),
     }
-    match read_items(row, RANKS_FILE, RANKED_LIMIT, i, doctors, guesses, lists) {
+    match read_items(row, RANKS_FILE, RANKED_LIMIT, i, doctors, search, lists) {
         Ok(()) => Ok(h),
         Err(fault) => Err(fault),
     }
@@ -70,14 +70,14 @@ fn read_rows(
     ) else {
         return Err(RosterFault::NoMemory);
     };
-    let mut guesses = Vec::new(alloc);
+    let mut search = Search::new(alloc);
     for i in 1..table.rows() {
         match read_rank(
             &table.row(i),
             i as u64,
             hospitals,
             doctors,
-            &mut guesses,
+            &mut search,
             &mut lists,
         ) {
             Ok(_) => {}
