@@ -1,5 +1,5 @@
 -- Lists that are built item by item: none, one begun, one item more.
-use Rattle.std.proofs.Common.{◌≡◌, ◌≢◌, ◌∙◌, sym, ap, refl, ℕ, zero, suc, ◌+◌, ◌-◌, ◌<◌, ◌≤◌, ◌^◌, List, [], ◌∷◌, ◌++◌, length, take, drop, set, get_or, replicate, false, Option, Some, None, IsSome, inl, inr, arith, length-append, length-drop, length-set, All}
+use Rattle.std.proofs.Common.{◌≡◌, ◌≢◌, ◌∙◌, sym, ap, refl, ℕ, zero, suc, ◌+◌, ◌-◌, ◌<◌, ◌≤◌, ◌^◌, List, [], ◌∷◌, ◌++◌, length, take, drop, set, get_or, replicate, Bool, true, false, Option, Some, None, IsSome, inl, inr, arith, length-append, length-drop, length-set, All}
 use mathlib.Core.Bool.{false≢true}
 use Rattle.std.specs.Bool.{◌==◌}
 use Rattle.std.specs.List.{IsDistinct, list_any, AllByRecursion}
@@ -7,11 +7,11 @@ use Rattle.std.proofs.lemmas.Bool.{cases_lt, cases_eq}
 use Rattle.std.proofs.lemmas.Bool.Decides.{nat_tests}
 use Rattle.std.proofs.lemmas.List.{take_more, length-take-le, length-map, get_or-map, take_all, drop-append-le, map-set, set-get_or, get_or-replicate, get_or_past, get_or_read, get_or-set_same, get_or-set_other, length-replicate}
 use Rattle.std.proofs.lemmas.List.Elements.{All-take, All-drop, All-map, All-nil, All-replicate, All-set, All-weaker, All-push}
-use Rattle.std.proofs.lemmas.List.Folds.{list_any-append, sum_by-replicate}
+use Rattle.std.proofs.lemmas.List.Folds.{list_any-append, list_any_more, sum_by-replicate}
 use Rattle.std.proofs.lemmas.List.Sums.{sum_by-set}
 use Rattle.rm_ranks.specs.declared.packed.Span.{Span}
 use Rattle.rm_ranks.specs.Packed.{part, lists_of}
-use Rattle.rm_ranks.specs.Builder.{IsBuilt, AreBuilt}
+use Rattle.rm_ranks.specs.Builder.{IsBuilt, AreBuilt, AreSeen}
 use Rattle.rm_ranks.proofs.Parts.{IsWithin, part-grown, lists-grown}
 use Rattle.rm_ranks.proofs.Searches.{both-false}
 
@@ -28,7 +28,7 @@ pub no-lists : (n : ℕ) → lists_of [] (replicate n no_span) ≡ replicate n [
 no-lists zero = refl
 no-lists (suc n) = ap (λ (ls : List (List ℕ)). [] ∷ ls) (no-lists n)
 
-pub none-built : (n m limit : ℕ) → n < 2 ^ 32 → AreBuilt [] (replicate n no_span) (replicate n None) (replicate m 0) None limit
+pub none-built : (n m limit : ℕ) → n < 2 ^ 32 → AreBuilt [] (replicate n no_span) (replicate n None) (replicate m false) None limit
 unfolding IsDistinct
 none-built n m limit few = record {
   few = omega (arith, length-replicate n no_span);
@@ -38,8 +38,8 @@ none-built n m limit few = record {
   ends = tt;
   total = rw (no-lists n, sum_by-replicate {X = List ℕ} length n []) (omega arith);
   room = omega arith;
-  below = All-nil (λ x. x < length (replicate m 0));
-  noted = λ i x may. rw (no-lists n, get_or-same n i {X = List ℕ} [], get_or-same m x {X = ℕ} 0) (grind (arith, nat_tests));
+  below = All-nil (λ x. x < length (replicate m false));
+  noted = λ x. sym (get_or-same m x {X = Bool} false);
 }
 
 -- ---- a list is begun
@@ -51,24 +51,25 @@ list-at : (items : List ℕ) (spans : List Span) (i : ℕ) (s : Span) → i < le
 list-at items spans i s lt = get_or-map (part items) spans i s [] lt
 
 pub lists-begun :
-    (items : List ℕ) (spans : List Span) (marks : List (Option ℕ)) (last : List ℕ) (at : Option ℕ) (limit : ℕ) → AreBuilt items spans marks last at limit →
+    (items : List ℕ) (spans : List Span) (marks : List (Option ℕ)) (seen : List Bool) (at : Option ℕ) (limit : ℕ) → AreBuilt items spans marks seen at limit →
     (i n : ℕ) → i < length spans → get_or marks i None ≡ None → lists_of items (set spans i (record { start = n; end = n })) ≡ lists_of items spans
-lists-begun items spans marks last at limit built i n lt none =
+lists-begun items spans marks seen at limit built i n lt none =
     let zero-is : n - n ≡ 0 = omega arith in
     let e : part items (record { start = n; end = n }) ≡ [] = ap (λ (k : ℕ). take k (drop n items)) zero-is in
     map-set (part items) spans i (record { start = n; end = n }) ∙ ap (λ (l : List ℕ). set (lists_of items spans) i l) (e ∙ sym (built.unbegun i none)) ∙ set-get_or (lists_of items spans) i []
 
 pub list-built :
-    (items : List ℕ) (spans : List Span) (marks : List (Option ℕ)) (last : List ℕ) (at : Option ℕ) (limit : ℕ) → AreBuilt items spans marks last at limit →
+    (items : List ℕ) (spans : List Span) (marks : List (Option ℕ)) (seen : List Bool) (at : Option ℕ) (limit : ℕ) → AreBuilt items spans marks seen at limit →
     (i n mark : ℕ) → i < length spans → get_or marks i None ≡ None → n ≡ length items →
-    AreBuilt items (set spans i (record { start = n; end = n })) (set marks i (Some mark)) last (Some i) limit
+    (unseen : List Bool) → length unseen ≡ length seen → ((x : ℕ) → get_or unseen x false ≡ false) →
+    AreBuilt items (set spans i (record { start = n; end = n })) (set marks i (Some mark)) unseen (Some i) limit
 unfolding IsDistinct
-list-built items spans marks last at limit built i n mark lt none n-is =
+list-built items spans marks seen at limit built i n mark lt none n-is unseen count forgotten =
     let span : Span = record { start = n; end = n } in
     let zero-is : n - n ≡ 0 = omega arith in
     let empty : part items span ≡ [] = ap (λ (k : ℕ). take k (drop n items)) zero-is in
     let marked : i < length marks = omega (arith, built.marked) in
-    let lists = lists-begun items spans marks last at limit built i n lt none in
+    let lists = lists-begun items spans marks seen at limit built i n lt none in
     let before : (k : ℕ) → get_or (set marks i (Some mark)) k None ≡ None → get_or marks k None ≡ None = λ k absent. elim (cases_eq k i) [
       | inl same ↦ absurd (some-is (Some mark) refl (sym (get_or-set_same marks i (Some mark) None marked) ∙ rw same at absent))
       | inr other ↦ rw (get_or-set_other marks i k (Some mark) None other) at absent
@@ -81,12 +82,35 @@ list-built items spans marks last at limit built i n mark lt none n-is =
       ends = (omega (arith, length-set spans i span), λ t. ap (λ (q : Span). q.end) (get_or-set_same spans i span t lt) ∙ n-is, rw (get_or-set_same marks i (Some mark) None marked) refl);
       total = rw lists built.total;
       room = built.room;
-      below = built.below;
-      noted = λ k x may. rw lists (built.noted k x (elim may [
-        | inl this ↦ let same : i ≡ k = cc in inr (rw same at none)
-        | inr absent ↦ inr (before k absent)
-      ]));
+      below = rw count built.below;
+      noted = λ x. rw (lists, built.unbegun i none) (sym (forgotten x));
     }
+
+-- ---- the items of the list begun last are forgotten
+
+-- an item more is forgotten
+pub forgotten-more : (list : List ℕ) (old seen : List Bool) (k item : ℕ) → k < length list → item ≡ get_or list k item → item < length seen →
+    ((x : ℕ) → get_or seen x false ≡ true → (get_or old x false ≡ true) × (list_any (λ y. y == x) (take k list) ≡ false)) →
+    (x : ℕ) → get_or (set seen item false) x false ≡ true → (get_or old x false ≡ true) × (list_any (λ y. y == x) (take (k + 1) list) ≡ false)
+forgotten-more list old seen k item lt is within so-far x left = elim (cases_eq x item) [
+  | inl same ↦ absurd (false≢true (sym (get_or-set_same seen item false false within) ∙ rw same at left))
+  | inr other ↦
+      let before = so-far x (rw (get_or-set_other seen item x false false other) at left) in
+      let at-k : item ≡ get_or list k 0 = get_or_read list k item lt is 0 in
+      (before.0, rw (list_any_more (λ y. y == x) list k 0 lt, before.1, ← at-k) (grind (arith, nat_tests)))
+]
+
+-- what is seen was in the list, and what was in the list is forgotten
+pub none-seen : (items : List ℕ) (spans : List Span) (i : ℕ) (s : Span) (old seen : List Bool) → i < length spans → s ≡ get_or spans i s → AreSeen items spans (Some i) old →
+    ((x : ℕ) → get_or seen x false ≡ true → (get_or old x false ≡ true) × (list_any (λ y. y == x) (part items s) ≡ false)) → (x : ℕ) → get_or seen x false ≡ false
+none-seen items spans i s old seen lt here noted left x = by-cases (get_or seen x false) refl
+  where
+    in-part : list_any (λ y. y == x) (part items s) ≡ get_or old x false
+    in-part = rw (list-at items spans i s lt, ← here) at (noted x)
+
+    by-cases : (b : Bool) → get_or seen x false ≡ b → b ≡ false
+    by-cases false e = refl
+    by-cases true e = let l = left x e in absurd (false≢true (sym l.1 ∙ in-part ∙ l.0))
 
 -- ---- one item more
 
@@ -101,21 +125,14 @@ distinct-push (x ∷ xs) y distinct none =
     let b = both-false (x == y) (list_any (λ z. z == y) xs) none in
     (rec-push (λ z. (x == z) ≡ false) xs y distinct.0 b.0, distinct-push xs y distinct.1 b.1)
 
--- a list has an item more, and so it is noted
-noted-push : (xs last : List ℕ) (item n x : ℕ) → item < length last → list_any (λ y. y == x) xs ≡ (get_or last x 0 == n) → list_any (λ y. y == x) (xs ++ item ∷ []) ≡ (get_or (set last item n) x 0 == n)
-noted-push xs last item n x within noted = rw (list_any-append (λ y. y == x) xs (item ∷ []), noted) (elim (cases_eq x item) [
-  | inl same ↦ rw (same, get_or-set_same last item n 0 within) (grind (arith, nat_tests))
-  | inr other ↦ rw (get_or-set_other last item x n 0 other) (grind (arith, nat_tests))
+-- a list has an item more, and so it is seen
+seen-push : (xs : List ℕ) (seen : List Bool) (item x : ℕ) → item < length seen → list_any (λ y. y == x) xs ≡ get_or seen x false → list_any (λ y. y == x) (xs ++ item ∷ []) ≡ get_or (set seen item true) x false
+seen-push xs seen item x within noted = rw (list_any-append (λ y. y == x) xs (item ∷ []), noted) (elim (cases_eq x item) [
+  | inl same ↦ rw (same, get_or-set_same seen item true false within) (grind (arith, nat_tests))
+  | inr other ↦ rw (get_or-set_other seen item x true false other) (grind (arith, nat_tests))
 ])
 
--- another list, which is empty, is noted as before
-noted-other : (last : List ℕ) (item n m x : ℕ) → item < length last → n ≢ m → false ≡ (get_or last x 0 == m) → false ≡ (get_or (set last item n) x 0 == m)
-noted-other last item n m x within apart noted = elim (cases_eq x item) [
-  | inl same ↦ rw (same, get_or-set_same last item n 0 within) (grind (arith, nat_tests))
-  | inr other ↦ rw (get_or-set_other last item x n 0 other) noted
-]
-
-module _ (items : List ℕ) (spans : List Span) (marks : List (Option ℕ)) (last : List ℕ) (at limit : ℕ) (built : AreBuilt items spans marks last (Some at) limit) (s : Span) (here : s ≡ get_or spans at s) where
+module _ (items : List ℕ) (spans : List Span) (marks : List (Option ℕ)) (seen : List Bool) (at limit : ℕ) (built : AreBuilt items spans marks seen (Some at) limit) (s : Span) (here : s ≡ get_or spans at s) where
   to-end : s.end ≡ length items
   to-end = rw (← here) at (built.ends.1 s)
 
@@ -125,8 +142,11 @@ module _ (items : List ℕ) (spans : List Span) (marks : List (Option ℕ)) (las
   pub last-is : get_or (lists_of items spans) at [] ≡ part items s
   last-is = list-at items spans at s built.ends.0 ∙ ap (λ (t : Span). part items t) (sym here)
 
-  pub not-repeated : (item m : ℕ) → item < length last → m ≡ get_or last item m → m ≢ at + 1 → list_any (λ x. x == item) (get_or (lists_of items spans) at []) ≡ false
-  not-repeated item m lt is apart = built.noted at item (inl refl) ∙ (let e = get_or_read last item m lt is 0 in grind (arith, nat_tests))
+  pub not-repeated : (item : ℕ) (repeated : Bool) → item < length seen → repeated ≡ get_or seen item repeated → repeated ≡ false → list_any (λ x. x == item) (get_or (lists_of items spans) at []) ≡ false
+  not-repeated item repeated lt is new = built.noted item ∙ sym (get_or_read seen item repeated lt is false) ∙ new
+
+  pub is-repeated : (item : ℕ) (repeated : Bool) → item < length seen → repeated ≡ get_or seen item repeated → repeated ≡ true → list_any (λ x. x == item) (get_or (lists_of items spans) at []) ≡ true
+  is-repeated item repeated lt is old = built.noted item ∙ sym (get_or_read seen item repeated lt is false) ∙ old
 
   this-built : IsBuilt items s
   this-built = rw (← here) at (built.each at s built.ends.0)
@@ -146,8 +166,8 @@ module _ (items : List ℕ) (spans : List Span) (marks : List (Option ℕ)) (las
       map-set (part (items ++ item ∷ [])) spans at (record { start = s.start; end = n })
       ∙ rw (lists-grown items (item ∷ []) spans each-within, grown-part item n n-is, ← last-is) refl
 
-  pub item-built : (item n : ℕ) → n ≡ length items + 1 → item < length last → length items < limit → list_any (λ x. x == item) (get_or (lists_of items spans) at []) ≡ false →
-      AreBuilt (items ++ item ∷ []) (set spans at (record { start = s.start; end = n })) marks (set last item (at + 1)) (Some at) limit
+  pub item-built : (item n : ℕ) → n ≡ length items + 1 → item < length seen → length items < limit → list_any (λ x. x == item) (get_or (lists_of items spans) at []) ≡ false →
+      AreBuilt (items ++ item ∷ []) (set spans at (record { start = s.start; end = n })) marks (set seen item true) (Some at) limit
   item-built item n n-is lt room new =
       let span : Span = record { start = s.start; end = n } in
       let longer = length-append items (item ∷ []) in
@@ -170,16 +190,8 @@ module _ (items : List ℕ) (spans : List Span) (marks : List (Option ℕ)) (las
         ends = (omega (arith, built.ends.0, length-set spans at span), λ t. let long : n ≡ length (items ++ item ∷ []) = omega (arith, longer) in ap (λ (q : Span). q.end) (get_or-set_same spans at span t built.ends.0) ∙ long, built.ends.2);
         total = rw grown (omega (arith, sum_by-set length (lists_of items spans) at (old ++ item ∷ []) [] here-within, length-append old (item ∷ []), longer, built.total));
         room = omega (arith, longer, room);
-        below = rw (length-set last item (at + 1)) (All-push (λ x. x < length last) items item built.below lt);
-        noted = λ i x may. rw grown (elim may [
-          | inl this ↦
-              let same : at ≡ i = cc in
-              rw (← same, get_or-set_same (lists_of items spans) at (old ++ item ∷ []) [] here-within) (noted-push old last item (at + 1) x lt (built.noted at x (inl refl)))
-          | inr none ↦
-              let empty = built.unbegun i none in
-              rw (get_or-set_other (lists_of items spans) at i (old ++ item ∷ []) [] (other i none), empty)
-              (noted-other last item (at + 1) (i + 1) x lt (omega (arith, other i none)) (rw empty at (built.noted i x (inr none))))
-        ]);
+        below = rw (length-set seen item true) (All-push (λ x. x < length seen) items item built.below lt);
+        noted = λ x. rw (grown, get_or-set_same (lists_of items spans) at (old ++ item ∷ []) [] here-within) (seen-push old seen item x lt (built.noted x));
       }
 
 -- ---- finished

@@ -1,7 +1,7 @@
 -- What building lists answers.
-use Rattle.std.specs.Prelude.{◌≡◌, ℕ, ◌+◌, ◌≤◌, ◌<◌, ◌^◌, ◌==◌, true, false, List, [], ◌∷◌, length, get_or, Option, Some, None, IsSome, Result, Ok, Err, ◌⊎◌, All}
+use Rattle.std.specs.Prelude.{◌≡◌, ℕ, ◌≤◌, ◌<◌, ◌^◌, ◌==◌, Bool, true, false, List, [], ◌∷◌, length, get_or, Option, Some, None, IsSome, Result, Ok, Err, All}
 use Rattle.std.specs.List.{IsDistinct, list_any, sum_by}
-use Rattle.rm_ranks.specs.Built.{ListsTold, last_list, begun, with_items}
+use Rattle.rm_ranks.specs.Built.{ListsTold, last_list, list_at, begun, with_items}
 use Rattle.rm_ranks.specs.Packed.{part, lists_of}
 use Rattle.rm_ranks.specs.declared.packed.Span.{Span}
 use Rattle.rm_ranks.specs.declared.builder.ListFault.{ListFault}
@@ -34,12 +34,12 @@ abbrev pub IsLast : List ℕ → List Span → List (Option ℕ) → Option ℕ 
 IsLast items spans marks None = Unit {0}
 IsLast items spans marks (Some i) = (i < length spans) × ((s : Span) → (get_or spans i s).end ≡ length items) × IsSome (get_or marks i None)
 
--- a list may get items: it is the one begun last, or isn't begun
-abbrev pub IsOpen : List (Option ℕ) → Option ℕ → ℕ → Type 0
-IsOpen marks at i = (at ≡ Some i) ⊎ (get_or marks i None ≡ None)
+-- of each item whether the list begun last has it
+abbrev pub AreSeen : List ℕ → List Span → Option ℕ → List Bool → Type 0
+AreSeen items spans at seen = (x : ℕ) → list_any (λ y. y == x) (list_at (lists_of items spans) at) ≡ get_or seen x false
 
--- what the builder keeps: a list that may get items has exactly those of which `last` says one more than the list's number
-pub record AreBuilt (items : List ℕ) (spans : List Span) (marks : List (Option ℕ)) (last : List ℕ) (at : Option ℕ) (limit : ℕ) : Type 0 where
+-- what the builder keeps
+pub record AreBuilt (items : List ℕ) (spans : List Span) (marks : List (Option ℕ)) (seen : List Bool) (at : Option ℕ) (limit : ℕ) : Type 0 where
   pub few : length spans < 2 ^ 32
   pub marked : length marks ≡ length spans
   pub each : All (IsBuilt items) spans
@@ -47,5 +47,5 @@ pub record AreBuilt (items : List ℕ) (spans : List Span) (marks : List (Option
   pub ends : IsLast items spans marks at
   pub total : sum_by length (lists_of items spans) ≡ length items
   pub room : length items ≤ limit
-  pub below : All (λ x. x < length last) items
-  pub noted : (i x : ℕ) → IsOpen marks at i → list_any (λ y. y == x) (get_or (lists_of items spans) i []) ≡ (get_or last x 0 == i + 1)
+  pub below : All (λ x. x < length seen) items
+  pub noted : AreSeen items spans at seen

@@ -1,9 +1,9 @@
 // Lists that are built item by item.
 
-ghost use Rattle.std.specs.Prelude.{◌≡◌, ◌<◌, ◌≤◌, [], ℕ, length, replicate, All, None, IsSome, IfOk};
-ghost use Rattle.std.specs.List.{sum_by};
+ghost use Rattle.std.specs.Prelude.{◌≡◌, ◌<◌, ◌≤◌, ◌==◌, [], ℕ, false, length, get_or, replicate, All, None, IsSome, IfOk, IfSome, IsTrue, IsFalse};
+ghost use Rattle.std.specs.List.{list_any, sum_by};
 ghost use Rattle.rm_ranks.specs.Built.{ListsTold};
-ghost use Rattle.rm_ranks.specs.Builder.{Begins, Pushes};
+ghost use Rattle.rm_ranks.specs.Builder.{AreSeen, Begins, IsBuilt, Pushes};
 
 use crate::lists::{Lists, NoMemory};
 use crate::packed::{Packed, Span};
@@ -23,6 +23,33 @@ pub enum ListFault {
     NoMemory,
 }
 
+// No item of a list is seen any more.
+fn forget_items(seen: &mut Vec<bool>, list: &[u32])
+    requires { All (λ x. x < length seen.old.items) list.now }
+    ensures count { length seen.new.items ≡ length seen.old.items }
+    ensures gone { (x : ℕ) → IsTrue (get_or seen.new.items x false) → IsTrue (get_or seen.old.items x false) × IsFalse (list_any (λ y. y == x) list.now) }
+{
+    for k in 0..list.len() {
+        seen[list[k] as usize] = false;
+    }
+}
+
+// No item is seen any more. Those that are seen are in the list begun last, which is `at`.
+fn forget_last(seen: &mut Vec<bool>, items: &[u32], spans: &[Span], at: Option<u32>)
+    requires seen { AreSeen items.now spans.now at seen.old.items }
+    requires below { All (λ x. x < length seen.old.items) items.now }
+    requires each { All (IsBuilt items.now) spans.now }
+    requires at { IfSome at (λ i. i < length spans.now) }
+    ensures count { length seen.new.items ≡ length seen.old.items }
+    ensures none { (x : ℕ) → IsFalse (get_or seen.new.items x false) }
+{
+    let Some(i) = at else {
+        return;
+    };
+    let span = spans[i as usize];
+    forget_items(seen, &items[span.start..span.end]);
+}
+
 /// Lists of distinct numbers that are built item by item, one list after the other in any order. A mark, such as the
 /// row of a file, is kept for each list that was begun. After a fault the builder is as before.
 #[derive(Drop)]
@@ -30,8 +57,8 @@ pub struct ListsBuilder {
     items: Vec<u32>,
     spans: Vec<Span>,
     marks: Vec<Option<u64>>,
-    // Of each item one more than the number of the list that it was pushed to last; 0 where it is in none.
-    last: Vec<u32>,
+    // Of each item whether the list begun last has it.
+    seen: Vec<bool>,
     at: Option<u32>,
     limit: u64,
 }
@@ -44,9 +71,9 @@ impl Model for ListsBuilder {
 
     ghost Value = { ListsTold };
 
-    ghost view = { λ b. record { lists = lists_of b.items.items b.spans.items; marks = b.marks.items; at = b.at; held = length b.items.items; items = length b.last.items; limit = b.limit } };
+    ghost view = { λ b. record { lists = lists_of b.items.items b.spans.items; marks = b.marks.items; at = b.at; held = length b.items.items; items = length b.seen.items; limit = b.limit } };
 
-    ghost invariant = { λ b. AreBuilt b.items.items b.spans.items b.marks.items b.last.items b.at b.limit };
+    ghost invariant = { λ b. AreBuilt b.items.items b.spans.items b.marks.items b.seen.items b.at b.limit };
 }
 
 impl ListsBuilder {
@@ -58,7 +85,7 @@ impl ListsBuilder {
             items: Vec::new(alloc),
             spans: vec![in alloc; Span { start: 0, end: 0 }; lists as usize]?,
             marks: vec![in alloc; None; lists as usize]?,
-            last: vec![in alloc; 0; items as usize]?,
+            seen: vec![in alloc; false; items as usize]?,
             at: None,
             limit,
         })
@@ -74,6 +101,7 @@ impl ListsBuilder {
         if let Some(former) = self.marks[list] {
             return Err(ListFault::RowRepeated(former));
         }
+        forget_last(&mut self.seen, &self.items, &self.spans, self.at);
         let end = self.items.len();
         self.spans[list] = Span { start: end, end };
         self.marks[list] = Some(mark);
@@ -91,7 +119,7 @@ impl ListsBuilder {
         let Some(at) = self.at else {
             unreachable!();
         };
-        if self.last[item as usize] == at + 1 {
+        if self.seen[item as usize] {
             return Err(ListFault::Repeated);
         }
         if self.items.len() as u64 >= self.limit {
@@ -103,7 +131,7 @@ impl ListsBuilder {
         let list = at as usize;
         let end = self.items.len();
         self.spans[list].end = end;
-        self.last[item as usize] = at + 1;
+        self.seen[item as usize] = true;
         Ok(())
     }
 
