@@ -1,6 +1,7 @@
 pub mod CellLemmas
 pub mod CutLemmas
 pub mod OnLiterals
+pub mod PackLemmas
 pub mod RecordLemmas
 mod Small
 pub mod TextLemmas

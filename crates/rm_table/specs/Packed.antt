@@ -1,5 +1,5 @@
--- Rows that are kept one after another: all cells, and the place where each row ends.
-use Rattle.std.specs.Prelude.{◌≡◌, ℕ, ◌-◌, List, [], ◌∷◌, length, take, drop}
+-- Cells that are kept one after another in one text, and rows in one list of cells, each with the places where they end.
+use Rattle.std.specs.Prelude.{◌≡◌, ℕ, ◌-◌, List, [], ◌∷◌, length, take, drop, All, IsCharBoundary}
 use Rattle.csv.specs.Records.{Rising, last_end}
 use Rattle.rm_table.specs.Rows.{Row}
 
@@ -16,3 +16,9 @@ rows_cut start (end ∷ ends) cells = between start end cells ∷ rows_cut end e
 pub record ArePackedRows (ends : List ℕ) (cells : Row) : Type 0 where
   pub rising : Rising 0 ends (length cells)
   pub last : last_end 0 ends ≡ length cells
+
+-- the cells end in order, the last one where the text ends, and each at the end of a character
+pub record ArePackedCells (ends bytes : List ℕ) : Type 0 where
+  pub rising : Rising 0 ends (length bytes)
+  pub last : last_end 0 ends ≡ length bytes
+  pub chars : All (IsCharBoundary bytes) ends

@@ -2,15 +2,17 @@
 #![tactic(auto)]
 
 ghost use Rattle.std.specs.Prelude.{◌≡◌, ◌<◌, ℕ, [], get_or, length};
-ghost use Rattle.csv.specs.Records.{fields_of, prev};
+ghost use Rattle.csv.specs.Records.{fields_of};
 ghost use Rattle.rm_table.specs.Rows.{row_of};
 ghost use Rattle.rm_table.specs.Packed.{ArePackedRows};
 ghost use Rattle.rm_table.specs.Answer.{ReadsRows, PushesCells, AddsRow};
 
 mod cells;
+mod packed_cells;
 
 use cells::{cell_at, cell_count};
-use csv::{ByteRecord, ReaderBuilder, StringRecord};
+use csv::{ByteRecord, ReaderBuilder};
+use packed_cells::{PackedCells, start_of};
 use std::alloc::Global;
 use std::marker::Model;
 
@@ -24,14 +26,14 @@ pub enum TableFault {
 }
 
 // Adds the cells of the row of a record. The row has this number.
-fn push_cells(cells: &mut StringRecord, fields: &ByteRecord, row: u64) -> Result<(), TableFault>
-    ensures { PushesCells (fields_of cells.old) (row_of (fields_of fields.now)) row (fields_of cells.new) result }
+fn push_cells(cells: &mut PackedCells, fields: &ByteRecord, row: u64) -> Result<(), TableFault>
+    ensures { PushesCells cells.old (row_of (fields_of fields.now)) row cells.new result }
 {
     for i in 0..cell_count(fields) {
         let Ok(text) = str::from_utf8(cell_at(fields, i)) else {
             return Err(TableFault::BadText(row));
         };
-        let Ok(()) = cells.push_field(text) else {
+        let Ok(()) = cells.push(text) else {
             return Err(TableFault::NoMemory);
         };
     }
@@ -40,34 +42,26 @@ fn push_cells(cells: &mut StringRecord, fields: &ByteRecord, row: u64) -> Result
 
 // Adds the row of a record, unless it has no cell.
 fn add_row(
-    ends: &mut Vec<usize>,
-    cells: &mut StringRecord,
+    ends: &mut Vec<u32>,
+    cells: &mut PackedCells,
     fields: &ByteRecord,
 ) -> Result<(), TableFault>
-    requires { ArePackedRows ends.old.items (fields_of cells.old) }
-    ensures { AddsRow ends.old.items (fields_of cells.old) (fields_of fields.now) ends.new.items (fields_of cells.new) result }
+    requires { ArePackedRows ends.old.items cells.old }
+    ensures { AddsRow ends.old.items cells.old (fields_of fields.now) ends.new.items cells.new result }
 {
     let start = cells.len();
     push_cells(cells, fields, ends.len() as u64)?;
-    let end = cells.len();
-    if start == end {
+    let count = cells.len();
+    if start == count {
         return Ok(());
     }
+    let Ok(end) = u32::try_from(count) else {
+        return Err(TableFault::NoMemory);
+    };
     if ends.push(end).is_err() {
         return Err(TableFault::NoMemory);
     }
     Ok(())
-}
-
-// Where a row starts, which is where the one before it ends.
-fn row_start(ends: &[usize], i: usize) -> usize
-    requires { i < length ends.now }
-    ensures { result ≡ prev 0 ends.now i }
-{
-    if i == 0 {
-        return 0;
-    }
-    ends[i - 1]
 }
 
 /// The rows of a text of CSV. A row is a list of cells, none of which has a space or a tab at its ends. Its last cell isn't
@@ -75,33 +69,33 @@ fn row_start(ends: &[usize], i: usize) -> usize
 #[derive(Drop)]
 pub struct Table {
     // All cells, row by row.
-    cells: StringRecord,
+    cells: PackedCells,
     // How many cells come before the end of each row.
-    ends: Vec<usize>,
+    ends: Vec<u32>,
 }
 
 impl Model for Table {
     ghost use Rattle.std.specs.Prelude.{List};
-    ghost use Rattle.csv.specs.Records.{fields_of};
     ghost use Rattle.rm_table.specs.Rows.{Row};
     ghost use Rattle.rm_table.specs.Packed.{rows_cut, ArePackedRows};
 
     ghost Value = { List Row };
 
-    ghost view = { λ t. rows_cut 0 t.ends.items (fields_of t.cells) };
+    ghost view = { λ t. rows_cut 0 t.ends.items t.cells };
 
-    ghost invariant = { λ t. ArePackedRows t.ends.items (fields_of t.cells) };
+    ghost invariant = { λ t. ArePackedRows t.ends.items t.cells };
 }
 
 impl Table {
     /// Reads the rows of a text of CSV: commas, double quotes, records of any length. The bytes EF BB BF at its very
     /// beginning are dropped. From each cell spaces and tabs are dropped at both ends, and then empty cells at the end of a
     /// record, and records without a cell. `BadText` comes exactly where a row that is left has a cell that isn't UTF-8.
+    /// More than 4,294,967,295 cells, or bytes in all cells, are answered as want of memory.
     pub fn read(alloc: Global, bytes: &[u8]) -> Result<Table, TableFault>
         ensures { ReadsRows bytes.now result }
     {
         // Room for all bytes, and for cells of three bytes and a comma.
-        let Ok(mut cells) = StringRecord::with_capacity(alloc, bytes.len(), bytes.len() / 4) else {
+        let Ok(mut cells) = PackedCells::with_capacity(alloc, bytes.len(), bytes.len() / 4) else {
             return Err(TableFault::NoMemory);
         };
         let mut reader = ReaderBuilder::new()
@@ -133,8 +127,8 @@ impl Table {
     {
         Row {
             cells: &self.cells,
-            start: row_start(&self.ends, i),
-            end: self.ends[i],
+            start: start_of(&self.ends, i),
+            end: self.ends[i] as usize,
         }
     }
 
@@ -150,21 +144,20 @@ impl Table {
 /// A row of a table, lent.
 #[derive(Drop)]
 pub struct Row<'a> {
-    cells: &'a StringRecord,
+    cells: &'a PackedCells,
     start: usize,
     end: usize,
 }
 
 impl<'a> Model for Row<'a> {
     ghost use Rattle.std.specs.Prelude.{List, ℕ, ◌≤◌, length};
-    ghost use Rattle.csv.specs.Records.{fields_of};
     ghost use Rattle.rm_table.specs.Packed.{between};
 
     ghost Value = { List (List ℕ) };
 
-    ghost view = { λ r. between r.start r.end (fields_of r.cells.now) };
+    ghost view = { λ r. between r.start r.end r.cells.now };
 
-    ghost invariant = { λ r. (r.start ≤ r.end) × (r.end ≤ length (fields_of r.cells.now)) };
+    ghost invariant = { λ r. (r.start ≤ r.end) × (r.end ≤ length r.cells.now) };
 }
 
 impl<'a> Row<'a> {
@@ -182,10 +175,7 @@ impl<'a> Row<'a> {
         if j >= self.end - self.start {
             return "";
         }
-        match self.cells.get(self.start + j) {
-            Some(text) => text,
-            None => "",
-        }
+        self.cells.get(self.start + j)
     }
 }
 

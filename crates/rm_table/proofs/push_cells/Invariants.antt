@@ -5,4 +5,4 @@ use Rattle.rm_table.proofs.CellLemmas.{ArePushed}
 use Rattle.rm_table.proofs.push_cells.Given as goal
 
 abbrev pub invariant-loop-i : goal.invariant-loop-i
-invariant-loop-i l = ArePushed (fields_of l.fn.cells) (map cell_of (fields_of l.fields)) l.i (fields_of l.cells)
+invariant-loop-i l = ArePushed l.fn.cells (map cell_of (fields_of l.fields)) l.i l.cells

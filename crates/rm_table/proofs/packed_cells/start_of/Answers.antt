@@ -1,6 +1,6 @@
 use Rattle.std.proofs.Common.{◌≡◌, ◌<◌, ◌+◌, ◌-◌, sym, length, arith}
 use Rattle.csv.proofs.RecordFacts.{prev-first, prev-next}
-use Rattle.rm_table.proofs.row_start.Goals as goal
+use Rattle.rm_table.proofs.packed_cells.start_of.Goals as goal
 
 pub returns-then-i-eq0 : goal.returns-then-i-eq0
 returns-then-i-eq0 c = rw c.if-i-eq0.true (sym (prev-first c.args.ends.now))
