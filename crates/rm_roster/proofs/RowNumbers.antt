@@ -1,5 +1,5 @@
 -- The numbers of the cells of a row.
-use Rattle.std.proofs.Common.{◌≡◌, ◌+◌, ◌-◌, ◌<◌, ◌≤◌, ◌∙◌, ◌⊎◌, inl, inr, ℕ, List, [], length, get_or, set, Option, None, sym, arith}
+use Rattle.std.proofs.Common.{◌≡◌, ◌+◌, ◌-◌, ◌<◌, ◌≤◌, ◌∙◌, ◌⊎◌, inl, inr, ℕ, List, [], length, get_or, set, Option, None, arith}
 use Rattle.std.proofs.lemmas.List.{get_or_default, get_or-set_same, get_or-set_other}
 use Rattle.std.proofs.Math.Nat.{eq-or-lt_of_le}
 use Rattle.rm_base.specs.Names.{place_of}
@@ -11,7 +11,7 @@ AreFound names row numbers count = (k : ℕ) → k < count → get_or numbers k 
 
 -- one more is found
 pub found-more : (names row : List Text) (numbers : List (Option ℕ)) (j : ℕ) (item : Option ℕ) → AreFound names row numbers j → j < length numbers → item ≡ place_of names (get_or row (j + 1) [])
-  → AreFound names row (set numbers j item) (j + 1)
+    → AreFound names row (set numbers j item) (j + 1)
 found-more names row numbers j item found lt is k more = found-at (eq-or-lt_of_le (omega (arith, more)))
   where
     found-at : (k ≡ j) ⊎ (k < j) → get_or (set numbers j item) k None ≡ place_of names (get_or row (k + 1) [])
@@ -20,7 +20,7 @@ found-more names row numbers j item found lt is k more = found-at (eq-or-lt_of_l
 
 -- the number of the cell in field j, counted from 0, past the first
 pub number-of_cell : (names row : List Text) (numbers : List (Option ℕ)) (j : ℕ) (cell : Text) (item : Option ℕ) → AreFound names row numbers (length numbers) → length numbers ≡ length row - 1
-  → 1 ≤ j → j < length row → cell ≡ get_or row j [] → item ≡ get_or numbers (j - 1) item → item ≡ place_of names cell
+    → 1 ≤ j → j < length row → cell ≡ get_or row j [] → item ≡ get_or numbers (j - 1) item → item ≡ place_of names cell
 number-of_cell names row numbers j cell item found count from lt told read =
     let within : j - 1 < length numbers = rw count (omega (arith, from, lt)) in
     let next : j - 1 + 1 ≡ j = omega (arith, from) in

@@ -1,4 +1,4 @@
-use Rattle.std.proofs.Common.{◌≡◌, ◌+◌, ◌-◌, ◌≤◌, ◌<◌, ℕ, [], None, get_or, length}
+use Rattle.std.proofs.Common.{◌≡◌, length}
 use Rattle.rm_roster.proofs.items.drop_misfits.Given as goal
 
 abbrev pub invariant-loop-j : goal.invariant-loop-j
