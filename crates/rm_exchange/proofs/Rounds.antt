@@ -5,7 +5,7 @@ use Rattle.std.proofs.lemmas.Int.{ints}
 use Rattle.std.proofs.lemmas.Bool.{cases_eq, cases_lt}
 use Rattle.std.proofs.lemmas.List.{get_or-set_same, get_or-set_other, get_or-drop, get_or-replicate, get_or_past, get_or_default, length-drop, length-set, length-replicate, drop-replicate}
 use Rattle.rm_exchange.specs.declared.removal.Removal.{Removal}
-use Rattle.rm_exchange.specs.Removals.{IsNoDearer, is_no_dearer, cheapest, IsCheapestOf, AreRounds}
+use Rattle.rm_exchange.specs.Removals.{IsNoDearer, is_no_dearer, cheapest, IsCheapestOf, AreRounds, IsTournament}
 
 -- ---- the cheaper of two
 
@@ -116,7 +116,7 @@ rival_at width entries i = get_or-drop width entries i None
 past : (entries : List (Option Removal)) (j : ℕ) (c : Removal) → entry entries j ≡ Some c → j < length entries
 past entries j c e = ⊎_elim (λ lt. lt) (λ ge. absurd (let n = get_or_past entries j None ge in cc)) (cases_lt j (length entries))
 
-pub top_is : (width : ℕ) (entries : List (Option Removal)) → AreRounds width entries → 0 < width → IsCheapestOf (drop width entries) (get_or entries 1 None)
+top_is : (width : ℕ) (entries : List (Option Removal)) → AreRounds width entries → 0 < width → IsCheapestOf (drop width entries) (get_or entries 1 None)
 top_is width entries r pos = at (get_or entries 1 None) refl
   where
     at : (o : Option Removal) → get_or entries 1 None ≡ o → IsCheapestOf (drop width entries) o
@@ -142,8 +142,15 @@ top_is width entries r pos = at (get_or entries 1 None) refl
               (let h = cover.1 in let same : cover.0 ≡ best = cc in subst (λ a. IsNoDearer a c) same cover.2);
         }
 
-pub no_rival : (width : ℕ) (entries : List (Option Removal)) → AreRounds width entries → width ≡ 0 → IsCheapestOf (drop width entries) None
+no_rival : (width : ℕ) (entries : List (Option Removal)) → AreRounds width entries → width ≡ 0 → IsCheapestOf (drop width entries) None
 no_rival width entries r e i = rival_at width entries i ∙ get_or_past entries (width + i) None (let t = r.twice in omega arith)
+
+pub best_is : (width : ℕ) (entries : List (Option Removal)) (best : Option Removal) → IsTournament width entries best → IsCheapestOf (drop width entries) best
+best_is width entries best t = subst (IsCheapestOf (drop width entries)) (sym t.first) (at (cases_lt 0 width))
+  where
+    at : (0 < width) ⊎ (width ≤ 0) → IsCheapestOf (drop width entries) (entry entries 1)
+    at (inl some) = top_is width entries t.entries_are some
+    at (inr none) = subst (IsCheapestOf (drop width entries)) (sym (get_or_past entries 1 None (let e = t.entries_are.twice in omega arith))) (no_rival width entries t.entries_are (omega arith))
 
 -- ---- a change
 
@@ -154,7 +161,7 @@ pub record AreRoundsBut (width : ℕ) (entries : List (Option Removal)) (j : ℕ
   pub here : j < 2 * width
   pub rounds : (k : ℕ) → 0 < k → k < width → k ≢ j / 2 → get_or entries k None ≡ cheapest (get_or entries (2 * k) None) (get_or entries (2 * k + 1) None)
 
-pub rival_changed : (width : ℕ) (entries : List (Option Removal)) (j : ℕ) (o : Option Removal) → AreRounds width entries → width ≤ j → j < 2 * width → AreRoundsBut width (set entries j o) j
+rival_changed : (width : ℕ) (entries : List (Option Removal)) (j : ℕ) (o : Option Removal) → AreRounds width entries → width ≤ j → j < 2 * width → AreRoundsBut width (set entries j o) j
 rival_changed width entries j o r lo hi = record {
   small = let s = r.small in omega arith;
   twice = length-set entries j o ∙ r.twice;
@@ -166,7 +173,7 @@ rival_changed width entries j o r lo hi = record {
       get_or-set_other entries j k o None n1 ∙ (r.rounds k pos lt ∙ sym (rw (get_or-set_other entries j (2 * k) o None n2, get_or-set_other entries j (2 * k + 1) o None n3) refl));
 }
 
-pub round_changed : (width : ℕ) (entries : List (Option Removal)) (j i : ℕ) (o : Option Removal) → AreRoundsBut width entries j → 1 < j → i ≡ j / 2 → o ≡ cheapest (get_or entries (2 * i) None) (get_or entries (2 * i + 1) None) → AreRoundsBut width (set entries i o) i
+round_changed : (width : ℕ) (entries : List (Option Removal)) (j i : ℕ) (o : Option Removal) → AreRoundsBut width entries j → 1 < j → i ≡ j / 2 → o ≡ cheapest (get_or entries (2 * i) None) (get_or entries (2 * i + 1) None) → AreRoundsBut width (set entries i o) i
 round_changed width entries j i o r lo e f =
     let small_j = r.here in
     record {
@@ -188,8 +195,40 @@ round_changed width entries j i o r lo e f =
           (cases_eq k i);
     }
 
-pub all_rounds : (width : ℕ) (entries : List (Option Removal)) (j : ℕ) → AreRoundsBut width entries j → j ≤ 1 → AreRounds width entries
-all_rounds width entries j r le = record { small = let s = r.small in omega arith; twice = r.twice; rounds = λ k pos lt. r.rounds k pos lt (omega arith) }
+-- so far as the j-th entry is changed, the best is the first entry, if that one isn't changed yet
+pub record IsChanging (width : ℕ) (entries : List (Option Removal)) (best : Option Removal) (j : ℕ) : Type 0 where
+  pub rounds : AreRoundsBut width entries j
+  pub first : 1 < j → best ≡ get_or entries 1 None
+
+pub change_starts : (width place : ℕ) (entries : List (Option Removal)) (best o : Option Removal) → IsTournament width entries best → place < width → IsChanging width (set entries (width + place) o) best (width + place)
+change_starts width place entries best o t lt = record {
+  rounds = rival_changed width entries (width + place) o t.entries_are (omega arith) (omega arith);
+  first = λ more. t.first ∙ sym (get_or-set_other entries (width + place) 1 o None (omega arith));
+}
+
+pub change_climbs : (width : ℕ) (entries : List (Option Removal)) (best : Option Removal) (j i : ℕ) (o : Option Removal) → IsChanging width entries best j → 1 < j → i ≡ j / 2 → o ≡ cheapest (get_or entries (2 * i) None) (get_or entries (2 * i + 1) None) → IsChanging width (set entries i o) best i
+change_climbs width entries best j i o t lo e f = record {
+  rounds = round_changed width entries j i o t.rounds lo e f;
+  first = λ more. t.first lo ∙ sym (get_or-set_other entries i 1 o None (omega arith));
+}
+
+-- where the next entry is as it was, all is done
+pub change_stops : (width : ℕ) (entries : List (Option Removal)) (best : Option Removal) (j i : ℕ) (o p : Option Removal) → IsChanging width entries best j → 1 < j → i ≡ j / 2 → o ≡ cheapest (get_or entries (2 * i) None) (get_or entries (2 * i + 1) None) → p ≡ get_or entries i p → o ≡ p → IsTournament width entries best
+change_stops width entries best j i o p t lo e f read same = record {
+  entries_are = record {
+    small = let s = t.rounds.small in omega arith;
+    twice = t.rounds.twice;
+    rounds = λ k pos lt.
+        ⊎_elim
+        (λ here.
+        let twice = t.rounds.twice in
+        let is : get_or entries i None ≡ o = sym (same ∙ (read ∙ get_or_default entries i p None (omega arith))) in
+        subst (λ z. get_or entries z None ≡ cheapest (get_or entries (2 * z) None) (get_or entries (2 * z + 1) None)) (sym here) (is ∙ f))
+        (λ other. t.rounds.rounds k pos lt (omega arith))
+        (cases_eq k i);
+  };
+  first = t.first lo;
+}
 
 -- what is read of two entries
 pub round_read : (width : ℕ) (entries : List (Option Removal)) (i : ℕ) (o p q : Option Removal) → length entries ≡ 2 * width → i < width → o ≡ get_or entries (2 * i) o → p ≡ get_or entries (2 * i + 1) p → q ≡ cheapest o p → q ≡ cheapest (get_or entries (2 * i) None) (get_or entries (2 * i + 1) None)
@@ -207,7 +246,7 @@ pub none_of_none : (n j : ℕ) → get_or {A = Option Removal} (replicate n None
 unfolding empty
 none_of_none n j = ⊎_elim (λ lt. get_or-replicate n j empty empty lt) (λ ge. get_or_past (replicate n empty) j empty (let l = length-replicate n empty in omega arith)) (cases_lt j n)
 
-pub empty_rounds : (width n : ℕ) (entries : List (Option Removal)) → width < 2 ^ 40 → entries ≡ replicate n None → n ≡ 2 * width → AreRounds width entries
+empty_rounds : (width n : ℕ) (entries : List (Option Removal)) → width < 2 ^ 40 → entries ≡ replicate n None → n ≡ 2 * width → AreRounds width entries
 empty_rounds width n entries small e same = rw e (record {
   small = small;
   twice = length-replicate n None ∙ same;
@@ -216,3 +255,9 @@ empty_rounds width n entries small e same = rw e (record {
 
 pub empty_rivals : (width n : ℕ) (entries : List (Option Removal)) → entries ≡ replicate n None → n ≡ 2 * width → drop width entries ≡ replicate width None
 empty_rivals width n entries e same = ap (drop width) e ∙ (drop-replicate width n None ∙ (let k : n - width ≡ width = omega arith in ap (λ m. replicate m None) k))
+
+pub empty_tournament : (width n : ℕ) (entries : List (Option Removal)) → width < 2 ^ 40 → entries ≡ replicate n None → n ≡ 2 * width → IsTournament width entries None
+empty_tournament width n entries small e same = record {
+  entries_are = empty_rounds width n entries small e same;
+  first = sym (ap (λ (l : List (Option Removal)). get_or l 1 None) e ∙ none_of_none n 1);
+}

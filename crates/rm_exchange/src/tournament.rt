@@ -9,24 +9,26 @@ use std::alloc::Global;
 use std::marker::Model;
 
 // The removals of some rivals, of which each may be empty. Entry `width + i` is that of rival i, and each entry j from 1
-// below the width is the cheaper one of the entries 2j and 2j + 1, so that entry 1 is the cheapest of all. To change one
-// rival takes at most as many steps as the width has binary digits.
+// below the width is the cheaper one of the entries 2j and 2j + 1, so that entry 1 is the cheapest of all. It stands beside
+// the entries too, so that it is read without them. To change one rival takes at most as many steps as the width has binary
+// digits.
 #[derive(Drop)]
 pub struct Tournament {
     width: usize,
     entries: Vec<Option<Removal>>,
+    best: Option<Removal>,
 }
 
 impl Model for Tournament {
     ghost use Rattle.std.specs.Prelude.{List, Option, drop};
     ghost use Rattle.rm_exchange.specs.declared.removal.Removal.{Removal};
-    ghost use Rattle.rm_exchange.specs.Removals.{AreRounds};
+    ghost use Rattle.rm_exchange.specs.Removals.{IsTournament};
 
     ghost Value = { List (Option Removal) };
 
     ghost view = { λ t. drop t.width t.entries.items };
 
-    ghost invariant = { λ t. AreRounds t.width t.entries.items };
+    ghost invariant = { λ t. IsTournament t.width t.entries.items t.best };
 }
 
 impl Tournament {
@@ -39,17 +41,18 @@ impl Tournament {
         for _ in 0..2 * width {
             entries.push(None)?;
         }
-        Ok(Tournament { width, entries })
+        Ok(Tournament {
+            width,
+            entries,
+            best: None,
+        })
     }
 
     // The cheapest of the rivals.
     pub(crate) fn best(&self) -> Option<Removal>
         ensures { IsCheapestOf self.now result }
     {
-        if self.width == 0 {
-            return None;
-        }
-        self.entries[1]
+        self.best
     }
 
     // Changes one rival.
@@ -67,5 +70,6 @@ impl Tournament {
             }
             self.entries[j] = winner;
         }
+        self.best = self.entries[1];
     }
 }
