@@ -60,6 +60,15 @@ taken_is old new z (Some x) order p top none inz up =
     let e : x ≡ z = omega (arith, low, high) in
     subst (λ w. IsPermutation old (w ∷ new)) e p
 
+-- and what stays was there
+pub still_there : (old new : List ℕ) (rest : Type 0) (o : Option ℕ) → IfSome o (λ x. IsPermutation old (x ∷ new)) → IfNone o ((new ≡ old) × rest) → (y : ℕ) → IsIn y new → IsIn y old
+still_there old new rest None p same y i = subst (λ S. IsIn y S) same.0 i
+still_there old new rest (Some x) p same y i = in_permutation (x ∷ new) old y (IsPermutation-sym old (x ∷ new) p) (IsIn-later y x new i)
+
+pub greatest_below : (items : List ℕ) (n : ℕ) (o : Option ℕ) → IsGreatestOf items o → ((y : ℕ) → IsIn y items → y < n) → IfSome o (λ x. x < n)
+greatest_below items n None k below = tt
+greatest_below items n (Some x) k below = below x k.member
+
 pub from_on_ok : {A E : Type 0} (P : Type 0) (r : Result A E) → is_ok r ≡ true → OnOk r P → P
 from_on_ok P (Ok a) e p = p
 from_on_ok P (Err a) e p = absurd (true≢false (sym e))

@@ -1,6 +1,5 @@
 -- The held contracts of a hospital: the greatest one is the cheapest, and one comes or goes.
 use Rattle.std.proofs.Common.{◌≡◌, ◌≢◌, ◌∙◌, ℕ, ◌+◌, ◌<◌, ◌≤◌, List, [], ◌∷◌, ◌++◌, Bool, true, false, ◌&&◌, length, get_or, set, eqb, count_by, Option, Some, None, pos, refl, sym, ap, subst, inr, ⊎_elim, arith, eqb-true, eq-eqb, ne_eqb, add-one}
-use Rattle.std.specs.Prelude.{IfSome}
 use Rattle.std.specs.Ordering.{nat_cmp}
 use Rattle.std.specs.List.Sorted.{IsPermutation}
 use Rattle.std.specs.BinaryHeap.{heap_items, heap_len, heap_capacity, IsHeap}
@@ -25,7 +24,7 @@ use Rattle.rm_exchange.specs.declared.removal.Removal.{Removal}
 use Rattle.rm_exchange.specs.declared.leaf.Leaf.{Leaf}
 use Rattle.rm_exchange.specs.Entrants.{HasHospitals, inner_cost, IsBestAt}
 use Rattle.rm_exchange.specs.Prospects.{AgreesWith}
-use Rattle.rm_exchange.specs.Leaves.{IsGreatestOf, IsOwnRemovalOf, room_at, IsLeafOf, AreLeaves}
+use Rattle.rm_exchange.specs.Leaves.{IsGreatestOf, IsOwnRemovalOf, IsTieOf, room_at, IsLeafOf, AreLeaves}
 use Rattle.rm_exchange.specs.Holding.{IsLastHeld}
 use Rattle.rm_exchange.proofs.Inner.{inner_none}
 use Rattle.rm_exchange.proofs.Lists.{with_last}
@@ -72,15 +71,16 @@ member_from b H h y leaf k i t =
     let found = some_member (λ z. eqb z y) (heap_items leaf.held) (subst (λ n. 0 < n) (sym (k.same (λ z. eqb z y))) there) in
     subst (λ w. IsIn w (heap_items leaf.held)) (eqb-true found.0 y found.2) found.1
 
--- the last contract of a leaf is one of the board's
-pub last_known : (b : Board) (H : List ℕ) (h : ℕ) (leaf : Leaf) → IsSetBelow (contract_count b) H → IsLeafOf b H h leaf → IfSome leaf.last (λ x. x < contract_count b)
-last_known b H h leaf sH k = by_last leaf.last k.last
-  where
-    by_last : (last : Option ℕ) → IsGreatestOf (heap_items leaf.held) last → IfSome last (λ x. x < contract_count b)
-    by_last None none = tt
-    by_last (Some z) top = sH.below z (member_of b H h z leaf k top.member).0
+-- the contracts of a leaf are the board's
+pub known_there : (b : Board) (H : List ℕ) (h : ℕ) (leaf : Leaf) → IsSetBelow (contract_count b) H → IsLeafOf b H h leaf → (y : ℕ) → IsIn y (heap_items leaf.held) → y < contract_count b
+known_there b H h leaf sH k y i = sH.below y (member_of b H h y leaf k i).0
 
 -- ---- the greatest contract of a leaf is the cheapest there
+
+-- the removal that is told by the kept place
+pub kept_removal : (ties : List ℕ) (last : Option ℕ) (x tie : ℕ) → last ≡ Some x → IsTieOf ties last tie → IsOwnRemovalOf ties last (Some (record { contract = x; tie = tie; loss = pos 0 }))
+kept_removal ties None x tie e is = absurd (cc)
+kept_removal ties (Some y) x tie e is = let same : y ≡ x = cc in rw (is, same) refl
 
 -- of two contracts with one leaf the greater is no earlier in tie order
 pub later_tie : (b : Board) → HasHospitals b → (y z : ℕ) → z < contract_count b → leaf_of b y ≡ leaf_of b z → y ≤ z → place b.ties y ≤ place b.ties z
@@ -184,8 +184,8 @@ leaf_room b plan H x leaf sH lx new fits k =
     let room = k.room in
     omega arith
 
-pub leaf_with : (b : Board) (H : List ℕ) (h x : ℕ) (leaf next : Leaf) → has x H ≡ false → test_at b h x ≡ true → IsLeafOf b H h leaf → IsPermutation (x ∷ heap_items leaf.held) (heap_items next.held) → (IsHeap nat_cmp (heap_items leaf.held) → IsHeap nat_cmp (heap_items next.held)) → IsGreatestOf (heap_items next.held) next.last → next.cap ≡ leaf.cap → heap_capacity leaf.held ≤ heap_capacity next.held → IsLeafOf b (with_one H x) h next
-leaf_with b H h x leaf next new t k items order last cap wide = record {
+pub leaf_with : (b : Board) (H : List ℕ) (h x : ℕ) (leaf next : Leaf) → has x H ≡ false → test_at b h x ≡ true → IsLeafOf b H h leaf → IsPermutation (x ∷ heap_items leaf.held) (heap_items next.held) → (IsHeap nat_cmp (heap_items leaf.held) → IsHeap nat_cmp (heap_items next.held)) → IsGreatestOf (heap_items next.held) next.last → IsTieOf b.ties next.last next.tie → next.cap ≡ leaf.cap → heap_capacity leaf.held ≤ heap_capacity next.held → IsLeafOf b (with_one H x) h next
+leaf_with b H h x leaf next new t k items order last tie cap wide = record {
   same = λ p.
       let pushed = sum_by_pushed (λ z. one (p z)) x (heap_items leaf.held) (heap_items next.held) items in
       let old = k.same p in
@@ -196,10 +196,11 @@ leaf_with b H h x leaf next new t k items order last cap wide = record {
   order = order k.order;
   cap = cap ∙ k.cap;
   last = last;
+  tie = tie;
 }
 
-pub leaf_without : (b : Board) (H : List ℕ) (h z : ℕ) (leaf next : Leaf) → IsSet H → IsIn z H → test_at b h z ≡ true → IsLeafOf b H h leaf → IsPermutation (heap_items leaf.held) (z ∷ heap_items next.held) → IsHeap nat_cmp (heap_items next.held) → IsGreatestOf (heap_items next.held) next.last → next.cap ≡ leaf.cap → heap_capacity next.held ≡ heap_capacity leaf.held → IsLeafOf b (without H z) h next
-leaf_without b H h z leaf next sH inH t k items order last cap wide = record {
+pub leaf_without : (b : Board) (H : List ℕ) (h z : ℕ) (leaf next : Leaf) → IsSet H → IsIn z H → test_at b h z ≡ true → IsLeafOf b H h leaf → IsPermutation (heap_items leaf.held) (z ∷ heap_items next.held) → IsHeap nat_cmp (heap_items next.held) → IsGreatestOf (heap_items next.held) next.last → IsTieOf b.ties next.last next.tie → next.cap ≡ leaf.cap → heap_capacity next.held ≡ heap_capacity leaf.held → IsLeafOf b (without H z) h next
+leaf_without b H h z leaf next sH inH t k items order last tie cap wide = record {
   same = λ p.
       let popped = sum_by_popped (λ y. one (p y)) z (heap_items leaf.held) (heap_items next.held) items in
       let old = k.same p in
@@ -210,6 +211,7 @@ leaf_without b H h z leaf next sH inH t k items order last cap wide = record {
   order = order;
   cap = cap ∙ k.cap;
   last = last;
+  tie = tie;
 }
 
 -- a leaf stays as it is where the same contracts are held there
@@ -220,6 +222,7 @@ leaf_stays b H K h leaf sH sK agree k = record {
   order = k.order;
   cap = k.cap;
   last = k.last;
+  tie = k.tie;
 }
 
 -- one leaf changes, and at the others the same contracts are held
@@ -298,6 +301,7 @@ empty_leaf b h leaf none room cap last order = record {
   order = order;
   cap = cap;
   last = subst (IsGreatestOf (heap_items leaf.held)) (sym last) none;
+  tie = subst (λ l. IsTieOf b.ties l leaf.tie) (sym last) tt;
 }
 
 -- one leaf more

@@ -15,7 +15,7 @@ use Rattle.rm_exchange.specs.declared.removal.Removal.{Removal}
 use Rattle.rm_exchange.specs.declared.holding.Holding.{Holding}
 use Rattle.rm_exchange.specs.Entrants.{ComesFirstOf, IsLeastOf}
 use Rattle.rm_exchange.specs.declared.leaf.Leaf.{Leaf}
-use Rattle.rm_exchange.specs.Leaves.{IsGreatestOf, IsLeafOf}
+use Rattle.rm_exchange.specs.Leaves.{IsGreatestOf, IsTieOf, IsLeafOf}
 use Rattle.rm_exchange.specs.Holding.{IsAllKept}
 
 first_from : (l : ℤ) (t : ℕ) (m : ℤ) (u : ℕ) → ∥ ComesFirstOf l t m u ∥₁ → ComesFirstOf l t m u
@@ -84,6 +84,10 @@ greatest_from items (Some x) t = record {
   greatest = λ y i. ∥∥₁_elim t (Prim.hlevel props) (λ k. k.greatest y i);
 }
 
+tie_from : (ties : List ℕ) (o : Option ℕ) (tie : ℕ) → ∥ IsTieOf ties o tie ∥₁ → IsTieOf ties o tie
+tie_from ties None tie t = tt
+tie_from ties (Some x) tie t = ∥∥₁_elim t (Prim.hlevel props) (λ f. f)
+
 leaf_from : (b : Board) (H : List ℕ) (h : ℕ) (leaf : Leaf) → ∥ IsLeafOf b H h leaf ∥₁ → IsLeafOf b H h leaf
 leaf_from b H h leaf t = record {
   same = λ p. ∥∥₁_elim t (Prim.hlevel props) (λ k. k.same p);
@@ -91,6 +95,7 @@ leaf_from b H h leaf t = record {
   order = ∥∥₁_elim t (IsHeap-prop nat_cmp (heap_items leaf.held)) (λ k. k.order);
   cap = ∥∥₁_elim t (Prim.hlevel props) (λ k. k.cap);
   last = greatest_from (heap_items leaf.held) leaf.last (∥∥₁_elim t (Prim.hlevel props) (λ k. ∣ k.last ∣₁));
+  tie = tie_from b.ties leaf.last leaf.tie (∥∥₁_elim t (Prim.hlevel props) (λ k. ∣ k.tie ∣₁));
 }
 
 pub kept_from : (b : Board) (places : List ℕ) (h : Holding) → ∥ IsAllKept b places h ∥₁ → IsAllKept b places h

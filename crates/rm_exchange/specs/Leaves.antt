@@ -1,5 +1,5 @@
 -- Of private calls: what is kept of the held contracts of a hospital.
-use Rattle.std.specs.Prelude.{◌≡◌, ℕ, ◌<◌, ◌≤◌, Bool, ◌&&◌, List, [], length, get_or, min, pos, Option, Some, None, count_by}
+use Rattle.std.specs.Prelude.{◌≡◌, ℕ, ◌<◌, ◌≤◌, Bool, ◌&&◌, List, [], length, get_or, min, pos, Option, Some, None, IfSome, count_by}
 use Rattle.std.specs.Ordering.{nat_cmp}
 use Rattle.std.specs.BinaryHeap.{heap_items, heap_capacity, IsHeap}
 use Rattle.rm_sets.specs.Sets.{IsIn, below}
@@ -28,18 +28,23 @@ abbrev pub IsOwnRemovalOf : List ℕ → Option ℕ → Option Removal → Type 
 IsOwnRemovalOf ties (Some x) r = r ≡ Some (own_removal ties x)
 IsOwnRemovalOf ties None r = r ≡ None
 
+-- the place in tie order that is kept of a contract, if there is one
+abbrev pub IsTieOf : List ℕ → Option ℕ → ℕ → Type 0
+IsTieOf ties last tie = IfSome last (λ x. tie ≡ place ties x)
+
 -- how many contracts can be held at node h: as many as its cap, or all contracts there, if these are fewer
 abbrev pub room_at : Board → ℕ → ℕ
 room_at b h = min (cap_of (node_at b h)) (count_at b (below (contract_count b)) h)
 
 -- a heap of just those contracts of H that are at node h, with room for all that can be held there; the cap of the node; the greatest of
--- the heap
+-- the heap, and its place in tie order
 pub record IsLeafOf (b : Board) (H : List ℕ) (h : ℕ) (leaf : Leaf) : Type 0 where
   pub same : (test : ℕ → Bool) → count_by test (heap_items leaf.held) ≡ count_by (λ x. test x && test_at b h x) H
   pub room : room_at b h ≤ heap_capacity leaf.held
   pub order : IsHeap nat_cmp (heap_items leaf.held)
   pub cap : leaf.cap ≡ cap_of (node_at b h)
   pub last : IsGreatestOf (heap_items leaf.held) leaf.last
+  pub tie : IsTieOf b.ties leaf.last leaf.tie
 
 -- one for each hospital
 pub record AreLeaves (b : Board) (H : List ℕ) (leaves : List Leaf) : Type 0 where

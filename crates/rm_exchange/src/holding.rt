@@ -44,7 +44,7 @@ pub(crate) fn cheapest_at(board: &Board, holding: &Holding, node: u32) -> Option
     ensures { IsBestAt board.now (held_in board.now holding.now) node result }
 {
     if (node as usize) < holding.leaves.len() {
-        return last_removal(board, &holding.leaves[node as usize]);
+        return last_removal(&holding.leaves[node as usize]);
     }
     holding.rivals[node as usize].best()
 }
@@ -109,7 +109,7 @@ fn mend(board: &Board, places: &[usize], holding: &mut Holding, x: u32)
     if chain.len() < 2 {
         return;
     }
-    let mut best = last_removal(board, &holding.leaves[board.leaf(x) as usize]);
+    let mut best = last_removal(&holding.leaves[board.leaf(x) as usize]);
     for i in 1..chain.len() {
         let inner = chain[i - 1];
         let entry = further(best, last_step(board, &holding.counts, inner));
@@ -131,7 +131,7 @@ fn enter_leaf(board: &Board, holding: &mut Holding, x: u32)
     ensures rivals { holding.new.rivals.items ≡ holding.old.rivals.items }
 {
     let leaf = &mut holding.leaves[board.leaf(x) as usize];
-    put_in(leaf, x);
+    put_in(board, leaf, x);
 }
 
 // Takes contract z out at its leaf, where it is the one of greatest number.
@@ -148,7 +148,7 @@ fn leave_leaf(board: &Board, holding: &mut Holding, z: u32)
     ensures rivals { holding.new.rivals.items ≡ holding.old.rivals.items }
 {
     let leaf = &mut holding.leaves[board.leaf(z) as usize];
-    take_greatest(leaf);
+    take_greatest(board, leaf);
 }
 
 // Marks contract x as held, or as not held.

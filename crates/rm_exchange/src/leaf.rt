@@ -1,12 +1,12 @@
 // What is held of each hospital, the contract of greatest number on top, and how much it may hold.
 
-ghost use Rattle.std.specs.Prelude.{◌≡◌, ◌↔◌, ◌∷◌, ◌<◌, ◌≤◌, ℕ, [], length, get_or, IfOk, IfSome, IsTrue};
+ghost use Rattle.std.specs.Prelude.{◌≡◌, ◌↔◌, ◌∷◌, ◌<◌, ◌≤◌, ℕ, List, [], length, get_or, IfOk, IfSome, IsTrue};
 ghost use Rattle.std.specs.Ordering.{nat_cmp};
 ghost use Rattle.std.specs.List.Sorted.{IsPermutation};
 ghost use Rattle.std.specs.BinaryHeap.{heap_items, heap_len, heap_capacity, IsHeap, KeepsHeap};
 ghost use Rattle.rm_sets.specs.Sets.{IsIn, below};
 ghost use Rattle.rm_market.specs.Board.{contract_count, leaf_of, count_at};
-ghost use Rattle.rm_exchange.specs.Leaves.{IsGreatestOf, IsOwnRemovalOf, room_at, AreLeaves};
+ghost use Rattle.rm_exchange.specs.Leaves.{IsGreatestOf, IsOwnRemovalOf, IsTieOf, room_at, AreLeaves};
 
 use crate::removal::Removal;
 use rm_board::Board;
@@ -14,13 +14,15 @@ use rm_choice::NoMemory;
 use std::alloc::Global;
 use std::collections::BinaryHeap;
 
-// The held contracts of a hospital, how many its own node may hold, and the held contract of greatest number. That one is the
-// cheapest to displace: no node lies inside a hospital's own, and of its contracts the greatest number is the last in tie order.
+// The held contracts of a hospital, how many its own node may hold, and the held contract of greatest number with its place in
+// tie order, which means nothing where no contract is held. That one is the cheapest to displace: no node lies inside a
+// hospital's own, and of its contracts the greatest number is the last in tie order.
 #[derive(Drop)]
 pub struct Leaf {
     pub held: BinaryHeap<u32>,
     pub cap: u32,
     pub last: Option<u32>,
+    pub tie: u32,
 }
 
 impl Leaf {
@@ -33,16 +35,15 @@ impl Leaf {
 }
 
 // The removal of the last contract of a hospital, by itself, if it holds any.
-pub(crate) fn last_removal(board: &Board, leaf: &Leaf) -> Option<Removal>
-    requires { IfSome leaf.now.last (λ x. x < contract_count board.now) }
-    ensures { IsOwnRemovalOf board.now.ties leaf.now.last result }
+pub(crate) fn last_removal(leaf: &Leaf) -> Option<Removal>
+    ensures { (ties : List ℕ) → IsTieOf ties leaf.now.last leaf.now.tie → IsOwnRemovalOf ties leaf.now.last result }
 {
     let Some(x) = leaf.last else {
         return None;
     };
     Some(Removal {
         contract: x,
-        tie: board.tie(x),
+        tie: leaf.tie,
         loss: 0,
     })
 }
@@ -58,13 +59,27 @@ fn greatest(held: &BinaryHeap<u32>) -> Option<u32>
     Some(*x)
 }
 
+// The place of a contract in tie order, or 0 if there is none.
+fn tie_of(board: &Board, last: Option<u32>) -> u32
+    requires { IfSome last (λ x. x < contract_count board.now) }
+    ensures { IsTieOf board.now.ties last result }
+{
+    match last {
+        Some(x) => board.tie(x),
+        None => 0,
+    }
+}
+
 // Holds contract x too.
-pub(crate) fn put_in(leaf: &mut Leaf, x: u32)
+pub(crate) fn put_in(board: &Board, leaf: &mut Leaf, x: u32)
+    requires contract { x < contract_count board.now }
     requires room { heap_len leaf.old.held < heap_capacity leaf.old.held }
     requires last { IsGreatestOf (heap_items leaf.old.held) leaf.old.last }
+    requires tie { IsTieOf board.now.ties leaf.old.last leaf.old.tie }
     ensures items { IsPermutation (x ∷ heap_items leaf.old.held) (heap_items leaf.new.held) }
     ensures order { KeepsHeap nat_cmp (heap_items leaf.old.held) (heap_items leaf.new.held) }
     ensures last { IsGreatestOf (heap_items leaf.new.held) leaf.new.last }
+    ensures tie { IsTieOf board.now.ties leaf.new.last leaf.new.tie }
     ensures cap { leaf.new.cap ≡ leaf.old.cap }
     ensures room { heap_capacity leaf.old.held ≤ heap_capacity leaf.new.held }
 {
@@ -77,19 +92,24 @@ pub(crate) fn put_in(leaf: &mut Leaf, x: u32)
         }
     }
     leaf.last = Some(x);
+    leaf.tie = board.tie(x);
 }
 
 // Lets the greatest contract go.
-pub(crate) fn take_greatest(leaf: &mut Leaf)
-    requires { IsHeap nat_cmp (heap_items leaf.old.held) }
+pub(crate) fn take_greatest(board: &Board, leaf: &mut Leaf)
+    requires order { IsHeap nat_cmp (heap_items leaf.old.held) }
+    requires known { (y : ℕ) → IsIn y (heap_items leaf.old.held) → y < contract_count board.now }
     ensures items { (z : ℕ) → IsIn z (heap_items leaf.old.held) → ((y : ℕ) → IsIn y (heap_items leaf.old.held) → y ≤ z) → IsPermutation (heap_items leaf.old.held) (z ∷ heap_items leaf.new.held) }
     ensures order { IsHeap nat_cmp (heap_items leaf.new.held) }
     ensures last { IsGreatestOf (heap_items leaf.new.held) leaf.new.last }
+    ensures tie { IsTieOf board.now.ties leaf.new.last leaf.new.tie }
     ensures cap { leaf.new.cap ≡ leaf.old.cap }
     ensures room { heap_capacity leaf.new.held ≡ heap_capacity leaf.old.held }
 {
     leaf.held.pop();
-    leaf.last = greatest(&leaf.held);
+    let last = greatest(&leaf.held);
+    leaf.tie = tie_of(board, last);
+    leaf.last = last;
 }
 
 // How many contracts each hospital has.
@@ -124,6 +144,7 @@ pub(crate) fn empty_leaves(alloc: Global, board: &Board) -> Result<Vec<Leaf>, No
             held,
             cap,
             last: None,
+            tie: 0,
         })?;
     }
     Ok(leaves)

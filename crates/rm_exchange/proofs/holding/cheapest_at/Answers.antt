@@ -1,21 +1,6 @@
 use Rattle.std.proofs.Common.{◌∙◌, arith}
-use Rattle.rm_market.specs.Board.{contract_count}
-use Rattle.rm_exchange.specs.Holding.{held_in}
-use Rattle.rm_exchange.proofs.Held.{held_set}
-use Rattle.rm_exchange.proofs.Leaves.{leaf_at, last_known}
 use Rattle.rm_exchange.proofs.Chain.{kept_leaf, kept_best, read_best}
 use Rattle.rm_exchange.proofs.holding.cheapest_at.Goals as goal
-
-pub last_removal-requires : goal.last_removal-requires
-last_removal-requires c =
-    let b = c.args.board.now in
-    let h = c.args.holding.now in
-    let k = c.requires.kept.1 in
-    let lt = c.if-node-len.true in
-    let long = c.len.ensures ∙ c.args.holding.now.leaves.ok.0 in
-    let all = k.leaves.all in
-    last_known b (held_in b h) c.args.node c.index.result.now (held_set (contract_count b) h.marks.items)
-    (leaf_at b (held_in b h) h.leaves.items c.args.node c.index.result.now k.leaves (omega arith) c.index.ensures)
 
 pub returns-then-node-len : goal.returns-then-node-len
 returns-then-node-len c =

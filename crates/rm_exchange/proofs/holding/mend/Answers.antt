@@ -1,21 +1,12 @@
 use Rattle.std.proofs.Common.{◌≡◌, ◌-◌, get_or, refl, subst, arith, FitsSigned, w64, pos}
 use Rattle.std.proofs.lemmas.Int.{ints, to_z-of_z}
-use Rattle.rm_market.specs.Board.{contract_count, node_at}
+use Rattle.rm_market.specs.Board.{node_at}
 use Rattle.rm_exchange.specs.Holding.{held_in}
-use Rattle.rm_exchange.proofs.Held.{held_set}
-use Rattle.rm_exchange.proofs.Leaves.{leaf_at, last_known}
 use Rattle.rm_exchange.proofs.Chain.{mending_start, mending_none, mending_step, mending_end, node_of, chain_home, small_best}
 use Rattle.rm_exchange.proofs.holding.mend.Goals as goal
 
 pub returns-then-chain-lt2-clause-kept : goal.returns-then-chain-lt2-clause-kept
 returns-then-chain-lt2-clause-kept c = mending_none c.args.board.now c.args.places.now c.args.holding.now c.args.x c.chain_of-chain.result.now c.chain_of-chain.ensures c.if-chain-lt2.true c.requires.kept
-
-pub last_removal-best-requires : goal.last_removal-best-requires
-last_removal-best-requires c =
-    let b = c.args.board.now in
-    let h = c.args.holding.now in
-    last_known b (held_in b h) c.leaf.result c.index.result.now (held_set (contract_count b) h.marks.items)
-    (leaf_at b (held_in b h) h.leaves.items c.leaf.result c.index.result.now c.requires.kept.leaves c.leaf.ensures.below c.index.ensures)
 
 pub loop-i-init : goal.loop-i-init
 loop-i-init c =

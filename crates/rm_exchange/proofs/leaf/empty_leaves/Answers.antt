@@ -28,7 +28,7 @@ loop-h-preserved c =
     let least = c.min-room.ensures in
     let capped = c.cap-cap.ensures.cap ∙ ap length c.steps.ensures in
     let exact = c.in_ok-held.ensures.exact in
-    let leaf : Leaf = record { held = c.in_ok-held.held; cap = c.cap-cap.result; last = None } in
+    let leaf : Leaf = record { held = c.in_ok-held.held; cap = c.cap-cap.result; last = None; tie = 0 } in
     let room : heap_capacity c.in_ok-held.held ≡ room_at b h = omega arith in
     let new : IsLeafOf b [] h leaf = empty_leaf b h leaf c.in_ok-held.ensures.items room capped refl (c.in_ok-held.ensures.heap_order) in
     record {

@@ -1,6 +1,7 @@
 use Rattle.std.proofs.Common.{◌∷◌, subst, sym}
 use Rattle.std.specs.List.Sorted.{IsPermutation}
 use Rattle.std.specs.BinaryHeap.{heap_items}
+use Rattle.rm_valuation_laws.proofs.TieOrder.{place_is}
 use Rattle.rm_exchange.specs.Leaves.{IsGreatestOf}
 use Rattle.rm_exchange.proofs.Greatest.{still_greatest, new_greatest, no_more, none_before, from_on_ok}
 use Rattle.rm_exchange.proofs.leaf.put_in.Goals as goal
@@ -21,3 +22,6 @@ returns-clause-last c =
     new_greatest old new c.args.x c.args.leaf.now.last c.requires.last
     (elim c.match-leaf.branch [ in-Some+else-x-last w ↦ no_more c.args.x c.args.leaf.now.last w.in-Some.last w.in-Some.is w.if-x-last.false | in_default w ↦ none_before c.args.x c.args.leaf.now.last w.in_default.is ])
     p
+
+pub returns-clause-tie : goal.returns-clause-tie
+returns-clause-tie c = sym (place_is c.args.board.now.ties c.args.x c.tie-leaf.result c.tie-leaf.ensures)
