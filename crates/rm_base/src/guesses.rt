@@ -59,55 +59,54 @@ impl Clue {
     }
 }
 
-// Up to four names whose hashes end alike: of each its tag, which is 0 where no name is noted, and its number.
-#[derive(Clone, Copy)]
-struct Bucket {
-    tags: [u8; ROOM],
-    numbers: [u32; ROOM],
-}
-
-/// A table from clues of names to numbers noted for them. Names may look alike, and one that finds its bucket full is not
-/// noted, so that a number is a hint alone.
+/// A table from clues of names to numbers noted for them, in buckets of names whose hashes end alike. Names may look alike, and one
+/// that finds its bucket full is not noted, so that a number is a hint alone.
 #[derive(Drop)]
 pub struct Guesses {
-    // None, or a power of two, which the end of a hash chooses from.
-    buckets: Vec<Bucket>,
+    // Of each bucket the tags of the names noted there, which are 0 where none is noted. There is no bucket, or a power of two,
+    // which the end of a hash chooses from.
+    tags: Vec<[u8; ROOM]>,
+    // Of each bucket the numbers of these names.
+    numbers: Vec<[u32; ROOM]>,
 }
 
 impl Guesses {
     /// Has no bucket, and guesses nothing.
     pub fn new(alloc: Global) -> Guesses {
         Guesses {
-            buckets: Vec::new(alloc),
+            tags: Vec::new(alloc),
+            numbers: Vec::new(alloc),
         }
     }
 
     /// Has buckets enough for so many names, from 0. NoMemory is the one error.
     pub fn with_capacity(alloc: Global, count: u32) -> Result<Guesses, NoMemory> {
-        let empty = Bucket {
-            tags: [0; ROOM],
-            numbers: [0; ROOM],
-        };
         let wanted = count.min(MOST_GUESSED) as usize / 2 + 1;
-        let buckets = vec![in alloc; empty; wanted.next_power_of_two()]?;
-        Ok(Guesses { buckets })
+        let buckets = wanted.next_power_of_two();
+        Ok(Guesses {
+            tags: vec![in alloc; [0; ROOM]; buckets]?,
+            numbers: vec![in alloc; [0; ROOM]; buckets]?,
+        })
     }
 
     // The place of the bucket of a name, if there is any.
     fn place(&self, clue: &Clue) -> usize {
-        clue.hash as usize & self.buckets.len().wrapping_sub(1)
+        clue.hash as usize & self.tags.len().wrapping_sub(1)
     }
 
     /// Notes the number of a name, where its bucket has room.
     pub fn note(&mut self, clue: &Clue, number: u32) {
         let place = self.place(clue);
-        let Some(bucket) = self.buckets.get_mut(place) else {
+        let Some(tags) = self.tags.get_mut(place) else {
+            return;
+        };
+        let Some(numbers) = self.numbers.get_mut(place) else {
             return;
         };
         for k in 0..ROOM {
-            if bucket.tags[k] == 0 {
-                bucket.tags[k] = clue.tag();
-                bucket.numbers[k] = number;
+            if tags[k] == 0 {
+                tags[k] = clue.tag();
+                numbers[k] = number;
                 return;
             }
         }
@@ -115,15 +114,16 @@ impl Guesses {
 
     /// The number noted first for a name, or for one that looks like it.
     pub fn get(&self, clue: &Clue) -> Option<u32> {
-        let bucket = self.buckets.get(self.place(clue))?;
+        let place = self.place(clue);
+        let tags = self.tags.get(place)?;
         let wanted = clue.tag();
         // No step depends on what an earlier one finds, so that none is predicted wrongly.
         let mut found = ROOM;
         for k in (0..ROOM).rev() {
-            if bucket.tags[k] == wanted {
+            if tags[k] == wanted {
                 found = k;
             }
         }
-        bucket.numbers.get(found).copied()
+        self.numbers.get(place)?.get(found).copied()
     }
 }
