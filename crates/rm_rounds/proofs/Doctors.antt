@@ -1,5 +1,5 @@
 -- The doctors at a desk: what becomes of their counts and places where one of them is replaced.
-use Rattle.std.proofs.Common.{◌≡◌, ◌∙◌, ℕ, ◌+◌, List, [], length, get_or, set, replicate, refl, sym, ap, zero, suc, None, arith}
+use Rattle.std.proofs.Common.{◌≡◌, ◌∙◌, ℕ, ◌+◌, ◌<◌, ◌^◌, List, [], length, get_or, set, replicate, refl, sym, ap, zero, suc, None, arith}
 use Rattle.std.proofs.lemmas.List.{length-map, map-set, get_or-replicate, length-replicate}
 use Rattle.std.proofs.Math.Seq.{map-set_same}
 use Rattle.std.proofs.Math.ListN.{get_or-map}
@@ -37,11 +37,12 @@ place_alike (suc n) a = rw (place_alike n a) refl
 pub nothing_spent : (m : ℕ) (w : Wishes) (ds : List Doctor) (held : List ℕ) → m ≡ length w.listed → held ≡ [] → ds ≡ replicate m (record { spent = 0; place = None }) → state (spent_each ds) held ≡ start w
 nothing_spent m w ds held count none is = rw (is, none, count, spent_alike (length w.listed) (record { spent = 0; place = None })) refl
 
-pub new_desk : (n m : ℕ) (C : List ℕ → List ℕ) (w : Wishes) (ds : List Doctor) (held : List ℕ) → AreWishes n w → m ≡ length w.listed → held ≡ [] → ds ≡ replicate m (record { spent = 0; place = None })
+pub new_desk : (n m : ℕ) (C : List ℕ → List ℕ) (w : Wishes) (ds : List Doctor) (held : List ℕ) → n < 2 ^ 32 → AreWishes n w → m ≡ length w.listed → held ≡ [] → ds ≡ replicate m (record { spent = 0; place = None })
     → IsDesk n C w (state (spent_each ds) held) (place_each ds)
-new_desk n m C w ds held wishes count none is =
+new_desk n m C w ds held few wishes count none is =
     let places : place_each ds ≡ replicate m None = ap place_each is ∙ place_alike m (record { spent = 0; place = None }) in
     record {
+      few = few;
       wishes = wishes;
       reached = ([], nothing_spent m w ds held count none is);
       long = rw places (length-replicate m None ∙ count);

@@ -2,6 +2,7 @@
 use Rattle.std.proofs.Common.{◌≡◌, ℕ, ◌+◌, ◌<◌, ◌≤◌, List, [], ◌∷◌, ◌++◌, Bool, true, false, not, ◌⊎◌, length, get_or, set, find, refl, sym, ap, ◌∙◌, subst, ⊎_elim, arith, Option, Some, None, is_some, length-set, get_or-set_same, get_or-set_other}
 use Rattle.std.proofs.lemmas.Bool.{cond-true, cond-false, cases_eq, not_from_true, not_from_false, not-true}
 use Rattle.std.proofs.lemmas.Option.{slice_get-get_or, slice_get_past}
+use Rattle.std.proofs.lemmas.Map.Steps.{length-le_from_distinct_below}
 use Rattle.std.specs.Prelude.{slice_get}
 use Rattle.rm_sets.specs.Sets.{has, IsIn, IsSetBelow, with_one}
 use Rattle.rm_sets.proofs.Sets.{IsIn-here, IsIn-later, not_both, IsIn-with_one_cases}
@@ -157,6 +158,14 @@ module _ (n : ℕ) (C : List ℕ → List ℕ) (w : Wishes) (s : State) (places 
         pub offered_below : get_or L (get_or s.spent d 0) 0 < n
         offered_below = let a = (desk_lawful.lists d).below (get_or L (get_or s.spent d 0) 0) on_list in let b = desk.wishes.contracts in omega (arith, a, b)
 
+        -- he has offered fewer than there are contracts, as his list has distinct ones
+        pub spent_below : get_or s.spent d 0 < n
+        spent_below =
+            let wished = desk.wishes.lists d doctor in
+            let most = length-le_from_distinct_below (list_of w d) n wished.distinct (λ x i. let below = wished.below x i in let b = desk.wishes.contracts in omega (arith, below, b)) in
+            let long = ap length list in
+            omega (arith, lt, most, long)
+
         pub offered_new : has (get_or L (get_or s.spent d 0) 0) s.held ≡ false
         offered_new = not_in_from (get_or L (get_or s.spent d 0) 0) s.held (λ i. none_from_not_placed w d s.held (placed false free) (get_or L (get_or s.spent d 0) 0) i own)
 
@@ -218,6 +227,7 @@ module _ (n : ℕ) (C : List ℕ → List ℕ) (w : Wishes) (s : State) (places 
 
           pub offer_desk : (o : Outcome) → IsOutcome s.held (get_or L (get_or s.spent d 0) 0) held o → IsDesk n C w (record { spent = set s.spent d (get_or s.spent d 0 + 1); held = held }) (places_after w.owners places d (get_or L (get_or s.spent d 0) 0) o)
           offer_desk o is = record {
+            few = desk.few;
             wishes = desk.wishes;
             reached = (desk.reached.0 ++ d ∷ [], offer_state held taken ∙ ap (λ t. after_turn C w t d) desk.reached.1 ∙ sym (run-append C w desk_lawful desk.reached.0 (d ∷ []) (start w)));
             long = new_long o;

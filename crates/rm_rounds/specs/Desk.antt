@@ -1,5 +1,5 @@
 -- What a contract sees of a desk, and what each desk keeps.
-use Rattle.std.specs.Prelude.{◌≡◌, ◌≢◌, ◌⊎◌, ℕ, ◌-◌, ◌<◌, List, length, map, Option, Some, None, get_or, set}
+use Rattle.std.specs.Prelude.{◌≡◌, ◌≢◌, ◌⊎◌, ℕ, ◌-◌, ◌<◌, ◌^◌, List, length, map, Option, Some, None, get_or, set}
 use Rattle.rm_market.specs.Stable.{Wishes, at}
 use Rattle.rm_market.specs.Machine.{State, next_offer, run, offered_so_far}
 use Rattle.rm_market.specs.Laws.{AreWishes, after}
@@ -33,8 +33,9 @@ state spent held = record { spent = spent; held = held }
 abbrev pub desk_state : {H : Type 0} → (H → List ℕ) → DeskTold H → State
 desk_state held k = state k.spent (held k.holder)
 
--- turns led here from the start, and each doctor's held contract is at hand
+-- turns led here from the start, each doctor's held contract is at hand, and the number of contracts fits a u32
 pub record IsDesk (n : ℕ) (chosen : List ℕ → List ℕ) (w : Wishes) (s : State) (places : List (Option ℕ)) : Type 0 where
+  pub few : n < 2 ^ 32
   pub wishes : AreWishes n w
   pub reached : (ds : List ℕ) × (s ≡ after chosen w ds)
   pub long : length places ≡ length w.listed

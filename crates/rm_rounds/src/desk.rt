@@ -55,6 +55,8 @@ impl<'a, H: Holder> Desk<'a, H> {
         ensures state { IfOk result (λ k. desk_state H.held k ≡ start (wishes owners.now listed.now)) }
         ensures chosen { IfOk result (λ k. H.chosen k.holder ≡ H.chosen holder) }
     {
+        // Called for its bound alone: no list is longer than the number of contracts, which fits a u32.
+        let _ = holder.contracts();
         let newcomer = Doctor {
             spent: 0,
             place: None,

@@ -13,7 +13,7 @@ use rm_ranks::Lists;
 // How many of his contracts a doctor has offered, and his held contract.
 #[derive(Clone, Copy)]
 pub(crate) struct Doctor {
-    pub(crate) spent: usize,
+    pub(crate) spent: u32,
     pub(crate) place: Option<u32>,
 }
 
@@ -33,18 +33,18 @@ pub(crate) fn take_turn<H: Holder>(
     ensures chosen { H.chosen holder.new ≡ H.chosen holder.old }
     ensures count { H.count holder.new ≡ H.count holder.old }
 {
-    let doctor = doctors[d as usize];
-    if doctor.place.is_some() {
+    let Doctor { spent, place } = doctors[d as usize];
+    if place.is_some() {
         return Turn::Idle;
     }
     let list = listed.list(d);
-    let k = doctor.spent;
+    let k = spent as usize;
     if k >= list.len() {
         return Turn::Done;
     }
     let x = list[k];
     let outcome = holder.offer(x);
-    doctors[d as usize].spent = k + 1;
+    doctors[d as usize].spent = spent + 1;
     note_places(owners, doctors, d, x, outcome);
     Turn::Moved { x, outcome }
 }
@@ -90,9 +90,9 @@ pub(crate) fn has_offer(listed: &Lists, doctors: &[Doctor], d: u32) -> bool
     requires doctors { d < length doctors.now }
     ensures { result ≡ (not (is_some (get_or (place_each doctors.now) d None)) && nat_lt (get_or (spent_each doctors.now) d 0) (length (get_or listed.now d []))) }
 {
-    let doctor = doctors[d as usize];
-    if doctor.place.is_some() {
+    let Doctor { spent, place } = doctors[d as usize];
+    if place.is_some() {
         return false;
     }
-    doctor.spent < listed.list(d).len()
+    (spent as usize) < listed.list(d).len()
 }

@@ -1,7 +1,7 @@
 use Rattle.std.proofs.Common.{◌∙◌, sym, ap, arith, is_some, length-set}
 use Rattle.rm_rounds.specs.Desk.{state}
 use Rattle.rm_rounds.proofs.Doctors.{spent_at, place_at, spent_after, places_then, count_places}
-use Rattle.rm_rounds.proofs.Turns.{done_state, done, offered_below, offered_new, offer_state, offer_turn, offer_desk, swapped_below, same_desk}
+use Rattle.rm_rounds.proofs.Turns.{done_state, done, offered_below, spent_below, offered_new, offer_state, offer_turn, offer_desk, swapped_below, same_desk}
 use Rattle.rm_rounds.proofs.turn.take_turn.Goals as goal
 
 pub bounds-doctors-d : goal.bounds-doctors-d
@@ -35,6 +35,15 @@ offer-outcome-requires-clause-new g c =
     let free = ap is_some (place_at c.args.doctors.now c.args.d) ∙ sym c.is_some.ensures ∙ c.if-is_some.false in
     let lt = rw (← e) at c.if-k-list.false in
     rw (← e) (offered_new _ _ _ _ _ (g.met.H.Holder.lawful c.args.holder.now) c.requires.desk c.args.d c.requires.doctor free _ c.list-list.ensures lt)
+
+pub overflow_add-doctors : goal.overflow_add-doctors
+overflow_add-doctors g c =
+    let e = spent_at c.args.doctors.now c.args.d in
+    let free = ap is_some (place_at c.args.doctors.now c.args.d) ∙ sym c.is_some.ensures ∙ c.if-is_some.false in
+    let lt = rw (← e) at c.if-k-list.false in
+    let below = spent_below _ _ _ _ _ (g.met.H.Holder.lawful c.args.holder.now) c.requires.desk c.args.d c.requires.doctor free _ c.list-list.ensures lt in
+    let few = c.requires.desk.few in
+    omega (arith, e, below, few)
 
 pub note_places-requires-clause-swapped : goal.note_places-requires-clause-swapped
 note_places-requires-clause-swapped g c z is =
