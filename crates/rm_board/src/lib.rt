@@ -8,6 +8,7 @@ mod board;
 mod contracts;
 mod doctors;
 mod hospitals;
+mod keys;
 mod listing;
 mod orders;
 mod ties;
