@@ -1,12 +1,14 @@
 -- The keys of contracts tell their tie order.
-use Rattle.std.proofs.Common.{◌≡◌, ◌↔◌, sym, ap, refl, ℕ, zero, suc, ◌+◌, ◌-◌, ◌<◌, ◌≤◌, List, [], ◌∷◌, length, get_or, true, false, nat_lt, inl, inr, arith}
+use Rattle.std.proofs.Common.{◌≡◌, ◌↔◌, ◌∙◌, sym, ap, refl, ℕ, zero, suc, ◌+◌, ◌-◌, ◌<◌, ◌≤◌, List, [], ◌∷◌, ◌++◌, length, get_or, true, false, nat_lt, inl, inr, arith}
 use Rattle.std.specs.Bool.{◌==◌}
 use Rattle.std.specs.List.{list_all, position_or_len}
 use Rattle.std.proofs.lemmas.Bool.{cases_lt, cases_Bool, and_parts, and_from, false_from_ne_true}
 use Rattle.std.proofs.lemmas.Bool.Decides.{nat_tests}
+use Rattle.std.proofs.lemmas.List.Folds.{list_all-append}
 use Rattle.std.proofs.lemmas.List.Sums.{fails_before_first, passes_at_first}
 use Rattle.rm_sets.specs.Sets.{IsIn}
-use Rattle.rm_sets.proofs.Members.{place_from_IsIn}
+use Rattle.rm_sets.proofs.Members.{IsIn-get_or, place_from_IsIn}
+use Rattle.rm_sets.proofs.Sets.{IsIn-here, IsIn-later}
 use Rattle.rm_market.specs.Board.{Board, pairs_of}
 use Rattle.rm_board.specs.TieKeys.{rank_key, ascends, is_ranked, tie_key}
 
@@ -22,7 +24,7 @@ module _ (key : ℕ → ℕ) where
   all-at x (y ∷ xs) all zero lt = let first = (and_parts (nat_lt (key x) (key y)) (list_all (λ y. nat_lt (key x) (key y)) xs) all).0 in grind (arith, nat_tests, first)
   all-at x (y ∷ xs) all (suc k) lt = all-at x xs (and_parts (nat_lt (key x) (key y)) (list_all (λ y. nat_lt (key x) (key y)) xs) all).1 k (omega arith)
 
-  all-from : (x : ℕ) (xs : List ℕ) → ((k : ℕ) → k < length xs → key x < key (get_or xs k 0)) → list_all (λ y. nat_lt (key x) (key y)) xs ≡ true
+  pub all-from : (x : ℕ) (xs : List ℕ) → ((k : ℕ) → k < length xs → key x < key (get_or xs k 0)) → list_all (λ y. nat_lt (key x) (key y)) xs ≡ true
   all-from x [] less = refl
   all-from x (y ∷ xs) less =
       let here : key x < key y = less 0 (omega arith) in
@@ -60,6 +62,17 @@ module _ (key : ℕ → ℕ) where
 
   pub ascends-all : (i : ℕ) (xs : List ℕ) → length xs ≤ i → AscendsTo i xs → true ≡ ascends key xs
   ascends-all i xs end up = sym (ascends-from xs (λ j k lt within. up j k lt (omega arith)))
+
+  -- one list after another, where all of the first have smaller keys than those of the second
+  pub ascends-append : (xs ys : List ℕ) → ascends key xs ≡ true → ascends key ys ≡ true → ((x y : ℕ) → IsIn x xs → IsIn y ys → key x < key y) → ascends key (xs ++ ys) ≡ true
+  ascends-append [] ys front back across = back
+  ascends-append (x ∷ xs) ys front back across =
+      let less = λ (y : ℕ). nat_lt (key x) (key y) in
+      let parts = and_parts (list_all less xs) (ascends key xs) front in
+      let past : list_all less ys ≡ true = all-from x ys (λ k lt. across x (get_or ys k 0) (IsIn-here x xs) (IsIn-get_or ys k 0 lt)) in
+      and_from (list_all less (xs ++ ys)) (ascends key (xs ++ ys))
+      (list_all-append less xs ys ∙ and_from (list_all less xs) (list_all less ys) parts.0 past)
+      (ascends-append xs ys parts.1 back (λ u v u-there v-there. across u v (IsIn-later u x xs u-there) v-there))
 
 -- ---- the place of a contract
 
@@ -113,6 +126,15 @@ module _ (key : ℕ → ℕ) (xs : List ℕ) (up : ascends key xs ≡ true) wher
     rises x y x-there y-there,
   )
 
+  le-is : (x y : ℕ) → IsIn x xs → IsIn y xs → (key x ≤ key y) ↔ (place xs x ≤ place xs y)
+  le-is x y x-there y-there = (
+    (λ le. elim (cases_lt (place xs y) (place xs x)) [
+      | inl less ↦ let lt = rises y x y-there x-there less in absurd (omega (arith, le, lt))
+      | inr more ↦ more
+    ]),
+    falls y x y-there x-there,
+  )
+
 -- ---- keys
 
 module _ (b : Board) (all : (x : ℕ) → x < length (pairs_of b.ranks) → IsIn x b.ties) (x y : ℕ) (x-lt : x < length (pairs_of b.ranks)) (y-lt : y < length (pairs_of b.ranks)) where
@@ -121,6 +143,13 @@ module _ (b : Board) (all : (x : ℕ) → x < length (pairs_of b.ranks) → IsIn
   key_order = elim (cases_Bool (is_ranked b.ranks b.ties)) [
     | inl told ↦ rw told (order-is (rank_key b.ranks) b.ties (and_parts _ _ told).1 x y (all x x-lt) (all y y-lt))
     | inr other ↦ rw other ((λ lt. lt), (λ lt. lt))
+  ]
+
+  pub key_le : (tie_key b x ≤ tie_key b y) ↔ (position_or_len (λ z. z == x) b.ties ≤ position_or_len (λ z. z == y) b.ties)
+  unfolding tie_key
+  key_le = elim (cases_Bool (is_ranked b.ranks b.ties)) [
+    | inl told ↦ rw told (le-is (rank_key b.ranks) b.ties (and_parts _ _ told).1 x y (all x x-lt) (all y y-lt))
+    | inr other ↦ rw other ((λ le. le), (λ le. le))
   ]
 
   pub key_same : tie_key b x ≡ tie_key b y → position_or_len (λ z. z == x) b.ties ≡ position_or_len (λ z. z == y) b.ties

@@ -66,7 +66,7 @@ impl Board {
         let Ok(places) = places_in(alloc, &contracts, &order) else {
             return Err(BoardFault::NoMemory);
         };
-        let ranked = is_ranked(&contracts, &order);
+        let ranked = is_ranked(&contracts, &order, ties);
         Ok(Board {
             contracts,
             tree,

@@ -2,10 +2,12 @@
 
 ghost use Rattle.std.specs.Prelude.{◌≡◌, ◌*◌, ◌<◌, ◌^◌, nat_lt, length, map, fold, max};
 ghost use Rattle.rm_market.specs.Board.{IsTieOrder};
+ghost use Rattle.rm_board.specs.Rules.{order_of};
 ghost use Rattle.rm_board.specs.TieKeys.{rank_key, ascends, is_ranked};
 
 use crate::contracts::Contracts;
 use crate::orders::longest_rank;
+use crate::ties::TieRule;
 
 // Whether no key by rank is a large number.
 fn keys_fit(contracts: &Contracts) -> bool
@@ -29,10 +31,17 @@ fn ascends(contracts: &Contracts, order: &[u32]) -> bool
     true
 }
 
-// Whether a tie order goes by place in the rank list and then by hospital, and no key by rank is a large number.
-pub fn is_ranked(contracts: &Contracts, order: &[u32]) -> bool
-    requires { IsTieOrder contracts.now order.now }
+// Whether the tie order of a rule goes by place in the rank list and then by hospital, and no key by rank is a large number.
+pub fn is_ranked(contracts: &Contracts, order: &[u32], rule: TieRule<'_>) -> bool
+    requires order { IsTieOrder contracts.now order.now }
+    requires rule { order.now ≡ order_of contracts.now rule }
     ensures { result ≡ is_ranked contracts.now order.now }
 {
-    keys_fit(contracts) && ascends(contracts, order)
+    if !keys_fit(contracts) {
+        return false;
+    }
+    match rule {
+        TieRule::ByRank => true,
+        TieRule::ByHospital | TieRule::Listed(_) => ascends(contracts, order),
+    }
 }
