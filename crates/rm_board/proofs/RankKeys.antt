@@ -1,9 +1,9 @@
--- The key of a contract by rank: its parts, and that it is no large number.
-use Rattle.std.proofs.Common.{◌≡◌, ◌∙◌, sym, ap, refl, ℕ, zero, suc, ◌+◌, ◌-◌, ◌*◌, ◌<◌, ◌≤◌, ◌^◌, List, [], ◌∷◌, ◌++◌, length, map, filter, fold, max, take, drop, get_or, Option, Some, None, Bool, true, false, cond, nat_lt, inl, inr, arith, length-append, take-append-drop}
+-- The key of a contract by rank: its parts, that it is no large number, and that the order by rank ascends by it.
+use Rattle.std.proofs.Common.{◌≡◌, ◌∙◌, sym, ap, refl, ℕ, zero, suc, ◌+◌, ◌-◌, ◌*◌, ◌<◌, ◌≤◌, ◌^◌, List, [], ◌∷◌, ◌++◌, length, map, fold, max, take, drop, get_or, Some, None, Bool, true, false, cond, nat_lt, inl, inr, arith, length-append, take-append-drop}
 use Rattle.std.specs.Bool.{◌==◌}
-use Rattle.std.proofs.lemmas.Bool.Decides.{nat_tests}
 use Rattle.std.specs.List.{position, position_or_len, list_all, flat_map}
 use Rattle.std.proofs.lemmas.Bool.{cases_lt, and_from}
+use Rattle.std.proofs.lemmas.Bool.Decides.{nat_tests}
 use Rattle.std.proofs.lemmas.List.{append-nil, get_or_append_left, get_or-append_right}
 use Rattle.std.proofs.lemmas.List.Concat.{flat_map-append}
 use Rattle.std.proofs.Math.Nat.{mul-le-mul_right}
@@ -14,8 +14,8 @@ use Rattle.rm_sets.proofs.Once.{length-below, get_or-below}
 use Rattle.rm_market.specs.Board.{pairs_of, hospital_of_number}
 use Rattle.rm_market.specs.Ties.{rank_places, by_hospital, by_rank}
 use Rattle.rm_board_laws.proofs.TieOrders.{place_bound}
-use Rattle.rm_board.specs.TieKeys.{rank_key, ascends, is_ranked}
 use Rattle.rm_board.specs.Rules.{order_of}
+use Rattle.rm_board.specs.TieKeys.{rank_key, ascends, is_ranked}
 use Rattle.rm_board.specs.declared.ties.TieRule.{TieRule}
 use Rattle.rm_board.specs.declared.ties.TieRule.TheVariants as rules
 use Rattle.rm_board.proofs.RankOrder.{at_place, length-places, places-more}
