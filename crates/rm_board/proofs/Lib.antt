@@ -9,3 +9,5 @@ pub mod BoardNodes
 pub mod Starts
 pub mod Filling
 pub mod Firsts
+pub mod TieKeys
+pub mod RankKeys

@@ -1,5 +1,5 @@
 -- The places of contracts in a tie order.
-use Rattle.std.proofs.Common.{◌≡◌, ◌≢◌, ◌∙◌, sym, ap, refl, ℕ, zero, suc, ◌+◌, ◌<◌, ◌≤◌, List, [], ◌∷◌, ℤ, length, get_or, set, replicate, true, false, Some, None, Ok, inl, inr, arith, length-set}
+use Rattle.std.proofs.Common.{◌≡◌, ◌≢◌, ◌∙◌, sym, ap, refl, ℕ, zero, suc, ◌+◌, ◌<◌, ◌≤◌, List, [], ◌∷◌, ℤ, length, get_or, set, replicate, Bool, true, false, Some, None, Ok, inl, inr, arith, length-set}
 use Rattle.std.specs.Bool.{◌==◌}
 use Rattle.std.specs.List.{IsDistinct, position, position_from, position_or_len}
 use Rattle.std.proofs.lemmas.Bool.{cases_lt}
@@ -20,6 +20,7 @@ use Rattle.rm_market.specs.Board.{pairs_of, IsTieOrder}
 use Rattle.rm_market.specs.Tree.{TreeOf, sets_of_tree}
 use Rattle.rm_board.specs.Boards.{board_of, ties_of, IsBoardKept, BuildsBoard}
 use Rattle.rm_board.specs.Rules.{fault_of, order_of}
+use Rattle.rm_board.specs.TieKeys.{is_ranked}
 use Rattle.rm_board.specs.declared.ties.TieRule.{TieRule}
 
 -- where a number of a distinct list stands
@@ -114,8 +115,8 @@ module _ (ranks : List (List ℕ)) (order places : List ℕ) (ties : IsTieOrder 
       grind (arith, nat_tests, apart))
       (λ within. let here = place-at p x lt refl in grind (arith, nat_tests, here)))
 
-  pub board-kept : (tree : TreeOf) (steps : List (List ℤ)) → length ranks ≡ tree.hospitals → length steps ≡ length (sets_of_tree tree) → IsBoardKept ranks tree steps places
-  board-kept tree steps hospitals nodes = record { hospitals = hospitals; nodes = nodes; order = rw ties-are ties; wide = wide; place = rw ties-are placed }
+  pub board-kept : (tree : TreeOf) (steps : List (List ℤ)) (ranked : Bool) → length ranks ≡ tree.hospitals → length steps ≡ length (sets_of_tree tree) → ranked ≡ is_ranked ranks order → IsBoardKept ranks tree steps places ranked
+  board-kept tree steps ranked hospitals nodes keys = record { hospitals = hospitals; nodes = nodes; order = rw ties-are ties; wide = wide; place = rw ties-are placed; keys = rw ties-are keys }
 
   pub board-built : (given : List (List ℕ)) (tree : TreeOf) (steps : List (List ℤ)) (rule : TieRule) → ranks ≡ given → fault_of ranks rule ≡ None → order ≡ order_of ranks rule →
       BuildsBoard given tree steps rule (Ok (board_of ranks tree steps (ties_of places)))

@@ -21,7 +21,7 @@ abbrev pub start : List (List ℕ) → ℕ → ℕ
 start ranks h = length (pairs_of (take h ranks))
 
 module _ (ranks : List (List ℕ)) where
-  start-more : (h : ℕ) → h < length ranks → start ranks (h + 1) ≡ start ranks h + length (get_or ranks h [])
+  pub start-more : (h : ℕ) → h < length ranks → start ranks (h + 1) ≡ start ranks h + length (get_or ranks h [])
   start-more h lt = omega (arith, ap length (pairs-more ranks h lt), length-append (pairs_of (take h ranks)) (own h (get_or ranks h [])), length-own h (get_or ranks h []))
 
   pub start-rises : (h g : ℕ) → h ≤ g → start ranks h ≤ start ranks g
@@ -70,6 +70,11 @@ module _ (ranks : List (List ℕ)) where
   number-is-of h x of =
       let lt : x < length (pairs_of ranks) = omega (arith, of.to, all-starts, start-rises (h + 1) (length ranks) (omega (arith, of.known))) in
       sym (hospital-is h x h of) ∙ get_or-map (λ (p : ℕ × ℕ). p.1) (pairs_of ranks) x (0, 0) h lt
+
+  pub of-number : (x : ℕ) → x < length (pairs_of ranks) → IsOf (hospital_of_number ranks x) x
+  of-number x lt =
+      let of = of-one (length ranks) x (omega arith) (omega (arith, lt, all-starts)) in
+      rw (← number-is-of of.0 x of.1) of.1
 
   -- ---- the runs, as they are built
 

@@ -1,5 +1,5 @@
 -- The board of rank lists, a tree and the steps of its nodes.
-use Rattle.std.specs.Prelude.{◌≡◌, ◌==◌, ℕ, ◌<◌, List, [], ℤ, map, length, drop, get_or, position, Some, None, Result, Ok, Err}
+use Rattle.std.specs.Prelude.{◌≡◌, ◌==◌, ℕ, ◌<◌, Bool, List, [], ℤ, map, length, drop, get_or, position, Some, None, Result, Ok, Err}
 use Rattle.std.specs.List.{position_or_len}
 use Rattle.rm_sets.specs.Sets.{below}
 use Rattle.rm_market.specs.Board.{Board, IsTieOrder, pairs_of}
@@ -8,6 +8,7 @@ use Rattle.rm_market.specs.declared.BoardFault.{BoardFault}
 use Rattle.rm_market.specs.declared.BoardFault.TheVariants as fault
 use Rattle.rm_board_laws.specs.HospitalBoards.{hospital_board, group_nodes}
 use Rattle.rm_board.specs.Rules.{order_of, fault_of}
+use Rattle.rm_board.specs.TieKeys.{is_ranked}
 use Rattle.rm_board.specs.declared.ties.TieRule.{TieRule}
 
 -- the board whose nodes are those of the tree, each with its steps
@@ -18,13 +19,14 @@ board_of ranks tree steps ties = hospital_board ranks (λ h. get_or steps h []) 
 abbrev pub ties_of : List ℕ → List ℕ
 ties_of places = map (λ p. position_or_len (λ q. q == p) places) (below (length places))
 
--- one rank list for each hospital, steps for each node, and the place of each contract in a tie order
-pub record IsBoardKept (ranks : List (List ℕ)) (tree : TreeOf) (steps : List (List ℤ)) (places : List ℕ) : Type 0 where
+-- one rank list for each hospital, steps for each node, the place of each contract in a tie order, and whether that goes by rank
+pub record IsBoardKept (ranks : List (List ℕ)) (tree : TreeOf) (steps : List (List ℤ)) (places : List ℕ) (ranked : Bool) : Type 0 where
   pub hospitals : length ranks ≡ tree.hospitals
   pub nodes : length steps ≡ length (sets_of_tree tree)
   pub order : IsTieOrder ranks (ties_of places)
   pub wide : length places ≡ length (pairs_of ranks)
   pub place : (x : ℕ) → x < length (pairs_of ranks) → position (λ y. y == x) (ties_of places) ≡ Some (get_or places x 0)
+  pub keys : ranked ≡ is_ranked ranks (ties_of places)
 
 -- the board with ties by the rule, or the first fault of the rule
 abbrev pub BuildsBoard : List (List ℕ) → TreeOf → List (List ℤ) → TieRule → Result Board BoardFault → Type 0

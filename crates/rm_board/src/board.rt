@@ -7,8 +7,10 @@ ghost use Rattle.rm_market.specs.Market.{listed_of};
 ghost use Rattle.rm_market.specs.Tree.{sets_of_tree};
 ghost use Rattle.rm_board.specs.Boards.{BuildsBoard};
 ghost use Rattle.rm_board.specs.Rules.{AreKnown};
+ghost use Rattle.rm_board.specs.TieKeys.{tie_key};
 
 use crate::contracts::{Contracts, NoMemory};
+use crate::keys::is_ranked;
 use crate::ties::{TieRule, places_in, tie_order};
 use crate::wishes::listed;
 use rm_laminar::Tree;
@@ -26,6 +28,7 @@ pub struct Board {
     tree: Tree,
     steps: Vec<Steps>,
     places: Vec<u32>,
+    ranked: bool,
 }
 
 impl Model for Board {
@@ -36,7 +39,7 @@ impl Model for Board {
 
     ghost view = { λ b. board_of b.contracts b.tree b.steps.items (ties_of b.places.items) };
 
-    ghost invariant = { λ b. IsBoardKept b.contracts b.tree b.steps.items b.places.items };
+    ghost invariant = { λ b. IsBoardKept b.contracts b.tree b.steps.items b.places.items b.ranked };
 }
 
 impl Board {
@@ -63,11 +66,13 @@ impl Board {
         let Ok(places) = places_in(alloc, &contracts, &order) else {
             return Err(BoardFault::NoMemory);
         };
+        let ranked = is_ranked(&contracts, &order, ties);
         Ok(Board {
             contracts,
             tree,
             steps,
             places,
+            ranked,
         })
     }
 
@@ -116,6 +121,18 @@ impl Board {
         requires { x < contract_count self.now }
         ensures { position (λ y. y == x) self.now.ties ≡ Some result }
     {
+        self.places[x as usize]
+    }
+
+    /// A number of contract x that is smaller than that of another contract exactly where x comes first in tie order. Where the
+    /// order goes by rank it is found without a table; else it is the place in the order.
+    pub fn tie_key(&self, x: u32) -> u32
+        requires { x < contract_count self.now }
+        ensures { result ≡ tie_key self.now x }
+    {
+        if self.ranked {
+            return self.contracts.rank_key(x);
+        }
         self.places[x as usize]
     }
 

@@ -1,10 +1,11 @@
 // The numbering of contracts.
 
-ghost use Rattle.std.specs.Prelude.{◌≡◌, ◌<◌, ◌≤◌, [], length, take, get_or, slice_range, IfOk, IfSome};
+ghost use Rattle.std.specs.Prelude.{◌≡◌, ◌*◌, ◌<◌, ◌≤◌, ◌^◌, [], length, map, fold, max, take, get_or, slice_range, IfOk, IfSome};
 ghost use Rattle.std.specs.List.{sum_by};
 ghost use Rattle.rm_market.specs.Board.{pairs_of, number_of, hospital_of_number, doctor_of_number, owners_of_ranks};
 ghost use Rattle.rm_board.specs.ByDoctor.{contracts_of_doctor};
 ghost use Rattle.rm_board.specs.Numbers.{number_at};
+ghost use Rattle.rm_board.specs.TieKeys.{rank_key};
 
 use crate::doctors::{ByDoctor, first_within};
 use crate::hospitals::{ByHospital, RUN};
@@ -148,6 +149,17 @@ impl Contracts {
         ensures { result ≡ number_at self.now place h }
     {
         self.start(h as usize) + place
+    }
+
+    // The place of contract x in its hospital's rank list, and then its hospital, as one number.
+    pub(crate) fn rank_key(&self, x: u32) -> u32
+        requires contract { x < length (pairs_of self.now) }
+        requires fits { fold max 0 (map length self.now) * length self.now < 2 ^ 32 }
+        ensures { result ≡ rank_key self.now x }
+    {
+        let h = self.hospital(x);
+        let place = x - self.start(h as usize);
+        place * self.hospitals() + h
     }
 
     // The contracts of doctor d, ascending.
