@@ -21,6 +21,7 @@ use Rattle.rm_valuation.proofs.Counted.{count_of}
 use Rattle.rm_exchange.specs.declared.removal.Removal.{Removal}
 use Rattle.rm_exchange.specs.declared.holding.Holding.{Holding}
 use Rattle.rm_exchange.specs.Removals.{IsCheapestOf}
+use Rattle.rm_board.specs.TieKeys.{tie_key}
 use Rattle.rm_exchange.specs.Entrants.{HasHospitals, IsEntry, IsBestAt}
 use Rattle.rm_exchange.specs.declared.leaf.Leaf.{Leaf}
 use Rattle.rm_exchange.specs.Leaves.{IsOwnRemovalOf, IsTieOf, AreLeaves}
@@ -62,7 +63,7 @@ node_of b plan x nodes i e lt = (holds_test b (get_or nodes i 0) x (chain-holds 
 pub first_is : (b : Board) → HasHospitals b → (x : ℕ) (nodes : List ℕ) → x < contract_count b → nodes ≡ chain (sets_of b) (leaf_of b x) → get_or nodes 0 0 ≡ leaf_of b x
 first_is b plan x nodes lx e = get_or_from_slice_get nodes 0 (leaf_of b x) 0 (first_node b plan x lx nodes (is_chain b plan x nodes e))
 
-pub mending_start : (b : Board) (places : List ℕ) (h : Holding) (x : ℕ) (nodes : List ℕ) (leaf : Leaf) (best : Option Removal) → IsKeptBut b x places h → x < contract_count b → nodes ≡ chain (sets_of b) (leaf_of b x) → leaf ≡ get_or h.leaves.items (leaf_of b x) leaf → ((ties : List ℕ) → IsTieOf ties leaf.last leaf.tie → IsOwnRemovalOf ties leaf.last best) → IsMending b places h h x nodes 1 best
+pub mending_start : (b : Board) (places : List ℕ) (h : Holding) (x : ℕ) (nodes : List ℕ) (leaf : Leaf) (best : Option Removal) → IsKeptBut b x places h → x < contract_count b → nodes ≡ chain (sets_of b) (leaf_of b x) → leaf ≡ get_or h.leaves.items (leaf_of b x) leaf → ((key : ℕ → ℕ) → IsTieOf key leaf.last leaf.tie → IsOwnRemovalOf key leaf.last best) → IsMending b places h h x nodes 1 best
 mending_start b places h x nodes leaf best k lx e at own =
     let plan = k.hospitals in
     let lt = plan.leaf x lx in
@@ -72,7 +73,7 @@ mending_start b places h x nodes leaf best k lx e at own =
       kept = other_entries b (λ f. not (test_at b f x)) (is_mended nodes 0) places h k (off_mended b (held_in b h) places h.rivals.items x nodes (is_chain b plan x nodes e) k.entries);
       same = refl;
       best_is = subst (λ w. IsBestAt b (held_in b h) w best) (sym (first_is b plan x nodes lx e))
-          (leaf_best b plan (held_in b h) (held_set (contract_count b) h.marks.items) (leaf_of b x) lt leaf there best (own b.ties there.tie));
+          (leaf_best b plan (held_in b h) (held_set (contract_count b) h.marks.items) (leaf_of b x) lt leaf there best (own (tie_key b) there.tie));
     }
 
 -- a later node of a chain is no hospital's own
@@ -237,10 +238,10 @@ small_best b H a (Some r) small best =
     (omega (arith, ints), omega (arith, ints))
 
 -- the cheapest at a hospital's node, and at another one, where all is mended
-pub kept_leaf : (b : Board) (places : List ℕ) (h : Holding) (a : ℕ) (leaf : Leaf) (best : Option Removal) → IsAllKept b places h → a < length b.ranks → leaf ≡ get_or h.leaves.items a leaf → ((ties : List ℕ) → IsTieOf ties leaf.last leaf.tie → IsOwnRemovalOf ties leaf.last best) → IsBestAt b (held_in b h) a best
+pub kept_leaf : (b : Board) (places : List ℕ) (h : Holding) (a : ℕ) (leaf : Leaf) (best : Option Removal) → IsAllKept b places h → a < length b.ranks → leaf ≡ get_or h.leaves.items a leaf → ((key : ℕ → ℕ) → IsTieOf key leaf.last leaf.tie → IsOwnRemovalOf key leaf.last best) → IsBestAt b (held_in b h) a best
 kept_leaf b places h a leaf best k lt at own =
     let there = leaf_at b (held_in b h) h.leaves.items a leaf k.leaves lt at in
-    leaf_best b k.hospitals (held_in b h) (held_set (contract_count b) h.marks.items) a lt leaf there best (own b.ties there.tie)
+    leaf_best b k.hospitals (held_in b h) (held_set (contract_count b) h.marks.items) a lt leaf there best (own (tie_key b) there.tie)
 
 pub kept_best : (b : Board) (places : List ℕ) (h : Holding) (a : ℕ) (best : Option Removal) → IsAllKept b places h → a < length b.nodes → length b.ranks ≤ a → IsCheapestOf (get_or h.rivals.items a []) best → IsBestAt b (held_in b h) a best
 kept_best b places h a best k la group top = best_at b (held_in b h) places (λ c. length (get_or h.rivals.items c [])) h.rivals.items a best k.hospitals (held_set (contract_count b) h.marks.items) k.placed la group refl (λ e le ha. k.entries e a le ha refl) top

@@ -1,12 +1,12 @@
 -- What is decided of an offer is the best subset of what is held with it.
 use Rattle.std.proofs.Common.{◌≡◌, ◌≢◌, ◌∙◌, ◌⊎◌, ℕ, ◌<◌, ◌≤◌, List, true, false, length, Option, Some, None, ℤ, pos, ◌+ℤ◌, ◌≤ℤ◌, ◌<ℤ◌, refl, sym, ap, subst, inl, inr, ⊎_elim, arith}
 use Rattle.std.proofs.lemmas.Int.{ints}
-use Rattle.std.proofs.lemmas.Bool.{cases_eq, cases_Bool, lt-ltb}
+use Rattle.std.proofs.lemmas.Bool.{cases_eq, cases_lt, cases_Bool, lt-ltb}
 use Rattle.rm_sets.specs.Sets.{has, IsIn, IsSetBelow, with_one}
 use Rattle.rm_sets.proofs.Sets.{not_both, IsSet-with_one}
 use Rattle.rm_sets.proofs.Members.{within_refl, within-with_one, IsIn-with_one_new}
 use Rattle.rm_market.specs.Best.{Values, is_better, IsBest, values_of, swapped}
-use Rattle.rm_market.specs.Board.{Board, node_at, is_feasible, worth}
+use Rattle.rm_market.specs.Board.{Board, contract_count, node_at, is_feasible, worth}
 use Rattle.rm_valuation_laws.specs.Scores.{score, place}
 use Rattle.rm_valuation_laws.specs.Changes.{IsConcaveBoard, test_at}
 use Rattle.rm_valuation_laws.specs.Offers.{IsFull, IsInside, EndsWalk, IsWalkAnswer}
@@ -18,6 +18,8 @@ use Rattle.rm_valuation_laws.proofs.Change.{worth_added, worth_swapped, added_in
 use Rattle.rm_valuation_laws.proofs.Walk.{walk_best}
 use Rattle.rm_valuation_laws.proofs.Order.{inside_tests, comparable}
 use Rattle.rm_valuation_laws.proofs.Offers.{IsSet-swapped}
+use Rattle.rm_board.specs.TieKeys.{tie_key}
+use Rattle.rm_board.proofs.TieKeys.{key_order}
 use Rattle.rm_exchange.specs.declared.prospects.Swap.{Swap}
 use Rattle.rm_exchange.specs.declared.prospects.Prospects.{Prospects}
 use Rattle.rm_exchange.specs.Prospects.{swap_change, IsNoGreater, IsBestRated, IsBestRatedOf, AreProspects, IsOwnAddition, IsKeeping, IsSwapping, IsRefusing}
@@ -36,6 +38,7 @@ not_better v S D fD le =
 -- an offer to a set that is its own best subset, and its prospects
 pub record IsOffer (b : Board) (H : List ℕ) (x : ℕ) (p : Prospects) : Type 0 where
   pub concave : IsConcaveBoard b
+  pub leaves : length b.leaves ≡ contract_count b
   pub set : IsSetBelow (length b.leaves) H
   pub contract : x < length b.leaves
   pub new : has x H ≡ false
@@ -80,6 +83,17 @@ the_swap b H x p o s e = subst (IsBestRatedOf b H x (test_at b o.prospects.node)
 in_ties : (b : Board) (H : List ℕ) (x : ℕ) (p : Prospects) → IsOffer b H x p → (z : ℕ) → z < length b.leaves → IsIn z b.ties
 in_ties b H x p o z lt = (o.concave.ties_all z).1 lt
 
+-- of two contracts, the one of no greater tie key stands first
+earlier : (b : Board) (H : List ℕ) (x : ℕ) (p : Prospects) → IsOffer b H x p → (y z : ℕ) → y < length b.leaves → z < length b.leaves → y ≢ z → tie_key b y ≤ tie_key b z → place b.ties y < place b.ties z
+earlier b H x p o y z ly lz ne le =
+    let all = o.leaves in
+    let differ : place b.ties y ≢ place b.ties z = λ e. ne (place_same b.ties y z (in_ties b H x p o y ly) e) in
+    let order = key_order b (λ w lw. in_ties b H x p o w (omega (arith, all, lw))) z y (omega (arith, all, lz)) (omega (arith, all, ly)) in
+    ⊎_elim
+    (λ lt. lt)
+    (λ ge. absurd (let less = order.1 (omega (arith, ge, differ)) in omega (arith, less, le)))
+    (cases_lt (place b.ties y) (place b.ties z))
+
 -- the best swap is feasible
 fits : (b : Board) (H : List ℕ) (x : ℕ) (p : Prospects) → (o : IsOffer b H x p) → (z : ℕ) → IsIn z H → test_at b o.prospects.node z ≡ true → is_feasible b (swapped H x z) ≡ true
 fits b H x p o z inz t =
@@ -117,7 +131,7 @@ kept_best b H x p o k =
           let le = k.3 s.0 s.1 in
           let ws = worth_with b H x p o z inz f in
           let most = s.2.best z inz t in
-          let less = addition_over_swap v H z x o.set.ascending inz o.new (in_ties b H x p o z (o.set.below z inz)) (at_most (worth b H) (worth b A) (worth b (swapped H x z)) (swap_change b H x z) s.0.change change (place b.ties z) s.0.tie w ws most le) in
+          let less = addition_over_swap v H z x o.set.ascending inz o.new (in_ties b H x p o z (o.set.below z inz)) (at_most (worth b H) (worth b A) (worth b (swapped H x z)) (swap_change b H x z) s.0.change change (tie_key b z) s.0.tie w ws most le) in
           omega (arith, ints));
     })
   where
@@ -126,21 +140,20 @@ kept_best b H x p o k =
     at_most h a s c d g t u e f (inr tie) le = let same = tie.0 in omega (arith, ints)
 
 -- of two swaps the one that is no better has no higher score
-swap_scores : (b : Board) (H : List ℕ) (x z y : ℕ) → IsIn z H → IsIn y H → has x H ≡ false → IsIn y b.ties → (c d : ℤ) → worth b (swapped H x z) ≡ worth b H +ℤ c → worth b (swapped H x y) ≡ worth b H +ℤ d → IsNoGreater c (place b.ties z) d (place b.ties y) → score (values_of b) (swapped H x z) ≤ℤ score (values_of b) (swapped H x y)
-swap_scores b H x z y inz iny out inTies c d wz wy (inl lt) = let s = score_by_worth (values_of b) (swapped H x y) (swapped H x z) (omega (arith, ints)) in omega (arith, ints)
-swap_scores b H x z y inz iny out inTies c d wz wy (inr tie) =
+swap_scores : (b : Board) (H : List ℕ) (x : ℕ) (p : Prospects) → IsOffer b H x p → (z y : ℕ) → IsIn z H → IsIn y H → (c d : ℤ) → worth b (swapped H x z) ≡ worth b H +ℤ c → worth b (swapped H x y) ≡ worth b H +ℤ d → IsNoGreater c (tie_key b z) d (tie_key b y) → score (values_of b) (swapped H x z) ≤ℤ score (values_of b) (swapped H x y)
+swap_scores b H x p o z y inz iny c d wz wy (inl lt) = let s = score_by_worth (values_of b) (swapped H x y) (swapped H x z) (omega (arith, ints)) in omega (arith, ints)
+swap_scores b H x p o z y inz iny c d wz wy (inr tie) =
     let same = tie.0 in
     let le = tie.1 in
     ⊎_elim
     (λ e. subst (λ w. score (values_of b) (swapped H x w) ≤ℤ score (values_of b) (swapped H x y)) (sym e) (omega (arith, ints)))
     (λ ne.
-    let differ : place b.ties z ≢ place b.ties y = λ e. ne (sym (place_same b.ties y z inTies (sym e))) in
-    let lt : place b.ties z < place b.ties y = omega arith in
-    let s = score_by_tie (values_of b) (swapped H x y) (swapped H x z) (omega (arith, ints)) (leads_of_swaps b.ties H x y z out iny inz (λ e. ne (sym e)) ∙ lt-ltb (place b.ties z) (place b.ties y) lt) in
+    let lt = earlier b H x p o z y (o.set.below z inz) (o.set.below y iny) ne le in
+    let s = score_by_tie (values_of b) (swapped H x y) (swapped H x z) (omega (arith, ints)) (leads_of_swaps b.ties H x y z o.new iny inz (λ e. ne (sym e)) ∙ lt-ltb (place b.ties z) (place b.ties y) lt) in
     omega (arith, ints))
     (cases_eq z y)
 
-pub swapped_best : (b : Board) (H : List ℕ) (x : ℕ) (p : Prospects) → (o : IsOffer b H x p) → (tie : ℕ) → tie ≡ place b.ties x → (z : ℕ) → IsSwapping p tie z → IsIn z H × IsBest (values_of b) (with_one H x) (swapped H x z)
+pub swapped_best : (b : Board) (H : List ℕ) (x : ℕ) (p : Prospects) → (o : IsOffer b H x p) → (tie : ℕ) → tie ≡ tie_key b x → (z : ℕ) → IsSwapping p tie z → IsIn z H × IsBest (values_of b) (with_one H x) (swapped H x z)
 swapped_best b H x p o tie tied z sw =
     let v = values_of b in
     let s = sw.0 in
@@ -151,26 +164,26 @@ swapped_best b H x p o tie tied z sw =
     let fD = fits b H x p o z inz t in
     let change : swap_change b H x z ≡ s.change = ap (swap_change b H x) sw.2 ∙ sym best.change in
     let wD : worth b D ≡ worth b H +ℤ s.change = worth_with b H x p o z inz fD ∙ ap (λ c. worth b H +ℤ c) change in
-    let place_is : s.tie ≡ place b.ties z = best.tie ∙ ap (place b.ties) (sym sw.2) in (
+    let key_is : s.tie ≡ tie_key b z = best.tie ∙ ap (tie_key b) (sym sw.2) in (
       inz,
       answer b H x p D o (record {
         set = IsSet-swapped H z x o.set.ascending;
         within = swapped_within H (with_one H x) z x (within-with_one H x) (IsIn-with_one_new H x);
         feasible = fD;
-        not_refused = not_better v H D fD (λ f. let lt = swap_over_held v H z x inz o.new (above (worth b H) (worth b D) s.change tie s.tie (place b.ties x) (place b.ties z) wD tied place_is sw.3) in omega (arith, ints));
+        not_refused = not_better v H D fD (λ f. let lt = swap_over_held v H z x inz o.new (above (worth b H) (worth b D) s.change tie s.tie (place b.ties x) (place b.ties z) wD (λ lt. earlier b H x p o x z o.contract (o.set.below z inz) (λ e. apart H z x inz o.new (sym e)) (omega (arith, tied, key_is, lt))) sw.3) in omega (arith, ints));
         not_added = not_better v (with_one H x) D fD (λ f.
             let add = addition_is b H x p o f in
             let lt = score_by_worth v D (with_one H x) (below (worth b H) (worth b D) (worth b (with_one H x)) s.change add.0 tie s.tie wD add.2 sw.3 (sw.4 add.0 add.1)) in
             omega (arith, ints));
         not_swapped = λ y iny ty. not_better v (swapped H x y) D fD (λ f.
-            swap_scores b H x y z iny inz o.new (in_ties b H x p o z (o.set.below z inz)) (swap_change b H x y) s.change (worth_with b H x p o y iny f) wD
-            (subst (λ w. IsNoGreater (swap_change b H x y) (place b.ties y) s.change w) place_is (best.best y iny ty)));
+            swap_scores b H x p o y z iny inz (swap_change b H x y) s.change (worth_with b H x p o y iny f) wD
+            (subst (λ w. IsNoGreater (swap_change b H x y) (tie_key b y) s.change w) key_is (best.best y iny ty)));
       }),
     )
   where
-    above : (h d c : ℤ) (t u t2 u2 : ℕ) → d ≡ h +ℤ c → t ≡ t2 → u ≡ u2 → (pos 0 <ℤ c) ⊎ ((c ≡ pos 0) × (t < u)) → (h <ℤ d) ⊎ ((d ≡ h) × (t2 < u2))
-    above h d c t u t2 u2 e f g (inl lt) = inl (omega (arith, ints))
-    above h d c t u t2 u2 e f g (inr tie) = let same = tie.0 in let lt = tie.1 in inr (omega (arith, ints), omega arith)
+    above : (h d c : ℤ) (t u v w : ℕ) → d ≡ h +ℤ c → (t < u → v < w) → (pos 0 <ℤ c) ⊎ ((c ≡ pos 0) × (t < u)) → (h <ℤ d) ⊎ ((d ≡ h) × (v < w))
+    above h d c t u v w e first (inl lt) = inl (omega (arith, ints))
+    above h d c t u v w e first (inr tie) = let same = tie.0 in inr (omega (arith, ints), first tie.1)
 
     below : (h d a c g : ℤ) (t u : ℕ) → d ≡ h +ℤ c → a ≡ h +ℤ g → (pos 0 <ℤ c) ⊎ ((c ≡ pos 0) × (t < u)) → (g <ℤ pos 0) ⊎ (g <ℤ c) → a <ℤ d
     below h d a c g t u e f (inl p1) (inl q) = omega (arith, ints)
@@ -178,7 +191,7 @@ swapped_best b H x p o tie tied z sw =
     below h d a c g t u e f (inr p1) (inl q) = let same = p1.0 in omega (arith, ints)
     below h d a c g t u e f (inr p1) (inr q) = omega (arith, ints)
 
-pub refused_best : (b : Board) (H : List ℕ) (x : ℕ) (p : Prospects) → (o : IsOffer b H x p) → (tie : ℕ) → tie ≡ place b.ties x → IsRefusing p tie → IsBest (values_of b) (with_one H x) H
+pub refused_best : (b : Board) (H : List ℕ) (x : ℕ) (p : Prospects) → (o : IsOffer b H x p) → (tie : ℕ) → tie ≡ tie_key b x → IsRefusing p tie → IsBest (values_of b) (with_one H x) H
 refused_best b H x p o tie tied r =
     let v = values_of b in
     let fH = o.own.feasible in
@@ -197,13 +210,13 @@ refused_best b H x p o tie tied r =
           let s = best_swap b H x p o z inz t in
           let most = s.2.best z inz t in
           let w = worth_with b H x p o z inz f in
-          let differ : place b.ties z ≢ place b.ties x = λ e. apart H z x inz o.new (place_same b.ties z x (in_ties b H x p o z (o.set.below z inz)) e) in
-          let lt = held_over_swap v H z x inz o.new (under (worth b H) (worth b (swapped H x z)) (swap_change b H x z) s.0.change (place b.ties z) s.0.tie tie (place b.ties x) w tied differ most (r.1 s.0 s.1)) in
+          let first : tie_key b z ≤ tie → place b.ties z < place b.ties x = λ le. earlier b H x p o z x (o.set.below z inz) o.contract (apart H z x inz o.new) (omega (arith, tied, le)) in
+          let lt = held_over_swap v H z x inz o.new (under (worth b H) (worth b (swapped H x z)) (swap_change b H x z) s.0.change (tie_key b z) s.0.tie tie (place b.ties z) (place b.ties x) w first most (r.1 s.0 s.1)) in
           omega (arith, ints));
     })
   where
-    under : (h d c m : ℤ) (t u v x : ℕ) → d ≡ h +ℤ c → v ≡ x → t ≢ x → IsNoGreater c t m u → (m <ℤ pos 0) ⊎ ((m ≡ pos 0) × (u ≤ v)) → (d <ℤ h) ⊎ ((h ≡ d) × (t < x))
-    under h d c m t u v x e f ne (inl lt) (inl q) = inl (omega (arith, ints))
-    under h d c m t u v x e f ne (inl lt) (inr q) = let same = q.0 in inl (omega (arith, ints))
-    under h d c m t u v x e f ne (inr tie) (inl q) = let same = tie.0 in inl (omega (arith, ints))
-    under h d c m t u v x e f ne (inr tie) (inr q) = let s = tie.0 in let l = tie.1 in let s2 = q.0 in let l2 = q.1 in inr (omega (arith, ints), omega arith)
+    under : (h d c m : ℤ) (t u v y z : ℕ) → d ≡ h +ℤ c → (t ≤ v → y < z) → IsNoGreater c t m u → (m <ℤ pos 0) ⊎ ((m ≡ pos 0) × (u ≤ v)) → (d <ℤ h) ⊎ ((h ≡ d) × (y < z))
+    under h d c m t u v y z e first (inl lt) (inl q) = inl (omega (arith, ints))
+    under h d c m t u v y z e first (inl lt) (inr q) = let same = q.0 in inl (omega (arith, ints))
+    under h d c m t u v y z e first (inr tie) (inl q) = let same = tie.0 in inl (omega (arith, ints))
+    under h d c m t u v y z e first (inr tie) (inr q) = let s = tie.0 in let l = tie.1 in let s2 = q.0 in let l2 = q.1 in inr (omega (arith, ints), first (omega arith))

@@ -9,7 +9,7 @@ use Rattle.rm_sets.proofs.Sets.{not_both}
 use Rattle.rm_market.specs.Board.{Node, Board, contract_count, leaf_of, node_at, sets_of, count}
 use Rattle.rm_market.specs.Best.{IsBest, values_of, swapped}
 use Rattle.rm_market.specs.Tree.{chain}
-use Rattle.rm_valuation_laws.specs.Scores.{place}
+use Rattle.rm_board.specs.TieKeys.{tie_key}
 use Rattle.rm_valuation_laws.specs.Changes.{in_node, test_at}
 use Rattle.rm_valuation_laws.specs.Offers.{IsFull}
 use Rattle.rm_valuation_laws.proofs.Counts.{one, count_all, count-with_one, count-without}
@@ -63,8 +63,8 @@ pub record IsFullLeaf (b : Board) (H : List ℕ) (x : ℕ) (leaf : Leaf) : Type 
 pub leaf_of_full : (b : Board) (h : Holding) (x at : ℕ) (leaf : Leaf) → AreLeaves b (held_in b h) h.leaves.items → at ≡ leaf_of b x → at < length b.ranks → leaf ≡ get_or h.leaves.items at leaf → IsFull b (held_in b h) (node_at b (leaf_of b x)) → IsFullLeaf b (held_in b h) x leaf
 leaf_of_full b h x at leaf leaves is lt there full = record { kept = subst (λ a. IsLeafOf b (held_in b h) a leaf) is (leaf_at b (held_in b h) h.leaves.items at leaf leaves lt there); full = full }
 
-abbrev own_swap : List ℕ → ℕ → Swap
-own_swap ties z = record { contract = z; tie = place ties z; change = pos 0 -ℤ pos 0 }
+abbrev own_swap : (ℕ → ℕ) → ℕ → Swap
+own_swap key z = record { contract = z; tie = key z; change = pos 0 -ℤ pos 0 }
 
 -- no contract there, or one that comes before x
 pub full_refused : (b : Board) (places : List ℕ) (h : Holding) (x : ℕ) (leaf : Leaf) → IsHolding b places h → x < contract_count b → has x (held_in b h) ≡ false → IsFullLeaf b (held_in b h) x leaf → IfSome leaf.last (λ z. z < x) → IsBest (values_of b) (with_one (held_in b h) x) (held_in b h)
@@ -79,11 +79,11 @@ full_refused b places h x leaf ready lx new k = by_last leaf.last refl
     plan : HasHospitals b
     plan = ready.kept.hospitals
 
-    refused : (p : Prospects) → AreProspects b H x p → IsRefusing p (place b.ties x) → IsBest (values_of b) (with_one H x) H
-    refused p prospects r = refused_best b H x p (offered b places h x p ready lx new prospects) (place b.ties x) refl r
+    refused : (p : Prospects) → AreProspects b H x p → IsRefusing p (tie_key b x) → IsBest (values_of b) (with_one H x) H
+    refused p prospects r = refused_best b H x p (offered b places h x p ready lx new prospects) (tie_key b x) refl r
 
-    best : (last : Option ℕ) → leaf.last ≡ last → (o : Option Removal) → IsOwnRemovalOf b.ties last o → IsBestAt b H (leaf_of b x) o
-    best last e o own = leaf_best b plan H sH (leaf_of b x) (plan.leaf x lx) leaf k.kept o (subst (λ l. IsOwnRemovalOf b.ties l o) (sym e) own)
+    best : (last : Option ℕ) → leaf.last ≡ last → (o : Option Removal) → IsOwnRemovalOf (tie_key b) last o → IsBestAt b H (leaf_of b x) o
+    best last e o own = leaf_best b plan H sH (leaf_of b x) (plan.leaf x lx) leaf k.kept o (subst (λ l. IsOwnRemovalOf (tie_key b) l o) (sym e) own)
 
     by_last : (last : Option ℕ) → leaf.last ≡ last → IfSome last (λ z. z < x) → IsBest (values_of b) (with_one H x) H
     by_last None e up =
@@ -92,12 +92,12 @@ full_refused b places h x leaf ready lx new k = by_last leaf.last refl
     by_last (Some z) e up =
         let last = last_held b plan H (leaf_of b x) (plan.leaf x lx) leaf k.kept z e in
         let le = later_tie b plan z x lx last.leaf (omega (arith, up)) in
-        refused (record { swap = Some (own_swap b.ties z); addition = None })
-        (full_prospects b plan H sH.ascending x lx (Some (own_removal b.ties z)) (Some (own_swap b.ties z)) (best (Some z) e (Some (own_removal b.ties z)) refl) refl k.full)
-        (λ change a. absurd (cc), λ s a. no_gain s (let same : own_swap b.ties z ≡ s = cc in same) le)
+        refused (record { swap = Some (own_swap (tie_key b) z); addition = None })
+        (full_prospects b plan H sH.ascending x lx (Some (own_removal (tie_key b) z)) (Some (own_swap (tie_key b) z)) (best (Some z) e (Some (own_removal (tie_key b) z)) refl) refl k.full)
+        (λ change a. absurd (cc), λ s a. no_gain s (let same : own_swap (tie_key b) z ≡ s = cc in same) le)
       where
-        no_gain : (s : Swap) → own_swap b.ties z ≡ s → place b.ties z ≤ place b.ties x → (s.change <ℤ pos 0) ⊎ ((s.change ≡ pos 0) × (s.tie ≤ place b.ties x))
-        no_gain s same le = subst (λ s. (s.change <ℤ pos 0) ⊎ ((s.change ≡ pos 0) × (s.tie ≤ place b.ties x))) same (inr (omega (arith, ints), le))
+        no_gain : (s : Swap) → own_swap (tie_key b) z ≡ s → tie_key b z ≤ tie_key b x → (s.change <ℤ pos 0) ⊎ ((s.change ≡ pos 0) × (s.tie ≤ tie_key b x))
+        no_gain s same le = subst (λ s. (s.change <ℤ pos 0) ⊎ ((s.change ≡ pos 0) × (s.tie ≤ tie_key b x))) same (inr (omega (arith, ints), le))
 
 -- the last contract there comes after x
 pub full_swapped : (b : Board) (places : List ℕ) (h : Holding) (x z : ℕ) (leaf : Leaf) → IsHolding b places h → x < contract_count b → has x (held_in b h) ≡ false → IsFullLeaf b (held_in b h) x leaf → leaf.last ≡ Some z → x ≤ z → IsBest (values_of b) (with_one (held_in b h) x) (swapped (held_in b h) x z)
@@ -109,10 +109,10 @@ full_swapped b places h x z leaf ready lx new k e le =
     let ne = apart H z x last.held new in
     let lt : x < z = omega arith in
     let first = plan.agrees x z lt (sH.below z last.held) (sym last.leaf) in
-    let best = leaf_best b plan H sH (leaf_of b x) (plan.leaf x lx) leaf k.kept (Some (own_removal b.ties z)) (subst (λ l. IsOwnRemovalOf b.ties l (Some (own_removal b.ties z))) (sym e) refl) in
-    let p : Prospects = record { swap = Some (own_swap b.ties z); addition = None } in
-    let prospects = full_prospects b plan H sH.ascending x lx (Some (own_removal b.ties z)) (Some (own_swap b.ties z)) best refl k.full in
-    (swapped_best b H x p (offered b places h x p ready lx new prospects) (place b.ties x) refl z (own_swap b.ties z, refl, refl, inr (omega (arith, ints), first), λ change a. absurd (cc))).1
+    let best = leaf_best b plan H sH (leaf_of b x) (plan.leaf x lx) leaf k.kept (Some (own_removal (tie_key b) z)) (subst (λ l. IsOwnRemovalOf (tie_key b) l (Some (own_removal (tie_key b) z))) (sym e) refl) in
+    let p : Prospects = record { swap = Some (own_swap (tie_key b) z); addition = None } in
+    let prospects = full_prospects b plan H sH.ascending x lx (Some (own_removal (tie_key b) z)) (Some (own_swap (tie_key b) z)) best refl k.full in
+    (swapped_best b H x p (offered b places h x p ready lx new prospects) (tie_key b x) refl z (own_swap (tie_key b) z, refl, refl, inr (omega (arith, ints), first), λ change a. absurd (cc))).1
 
 -- ---- what is kept
 

@@ -14,7 +14,7 @@ use Rattle.rm_sets.proofs.Sizes.{length-all_below}
 use Rattle.rm_sets.proofs.Members.{not_in_nil, not_in_from, with_one_within, IsIn-all_below}
 use Rattle.rm_market.specs.Board.{Board, contract_count, leaf_of, node_at, no_node, cap_of, sets_of, count_at, is_feasible}
 use Rattle.rm_market.specs.Tree.{is_inside, set_of}
-use Rattle.rm_valuation_laws.specs.Scores.{place}
+use Rattle.rm_board.specs.TieKeys.{tie_key}
 use Rattle.rm_valuation_laws.specs.Changes.{test_at, last_step}
 use Rattle.rm_valuation_laws.proofs.Cheapest.{count_agree}
 use Rattle.rm_valuation_laws.proofs.Counts.{one, count-cons, count_all, count-with_one, count-without, count_within}
@@ -23,7 +23,6 @@ use Rattle.rm_valuation_laws.proofs.Moves.{with_other, without_other}
 use Rattle.rm_exchange.specs.declared.removal.Removal.{Removal}
 use Rattle.rm_exchange.specs.declared.leaf.Leaf.{Leaf}
 use Rattle.rm_exchange.specs.Entrants.{HasHospitals, inner_cost, IsBestAt}
-use Rattle.rm_exchange.specs.Prospects.{AgreesWith}
 use Rattle.rm_exchange.specs.Leaves.{IsGreatestOf, IsOwnRemovalOf, IsTieOf, room_at, IsLeafOf, AreLeaves}
 use Rattle.rm_exchange.specs.Holding.{IsLastHeld}
 use Rattle.rm_exchange.proofs.Inner.{inner_none}
@@ -77,21 +76,16 @@ known_there b H h leaf sH k y i = sH.below y (member_of b H h y leaf k i).0
 
 -- ---- the greatest contract of a leaf is the cheapest there
 
--- the removal that is told by the kept place
-pub kept_removal : (ties : List ℕ) (last : Option ℕ) (x tie : ℕ) → last ≡ Some x → IsTieOf ties last tie → IsOwnRemovalOf ties last (Some (record { contract = x; tie = tie; loss = pos 0 }))
-kept_removal ties None x tie e is = absurd (cc)
-kept_removal ties (Some y) x tie e is = let same : y ≡ x = cc in rw (is, same) refl
-
--- of two contracts with one leaf the greater is no earlier in tie order
-pub later_tie : (b : Board) → HasHospitals b → (y z : ℕ) → z < contract_count b → leaf_of b y ≡ leaf_of b z → y ≤ z → place b.ties y ≤ place b.ties z
+-- of two contracts with one leaf the greater has no smaller tie key
+pub later_tie : (b : Board) → HasHospitals b → (y z : ℕ) → z < contract_count b → leaf_of b y ≡ leaf_of b z → y ≤ z → tie_key b y ≤ tie_key b z
 later_tie b plan y z lz same le =
     ⊎_elim
-    (λ e. let f : place b.ties y ≡ place b.ties z = ap (place b.ties) e in omega arith)
+    (λ e. let f : tie_key b y ≡ tie_key b z = ap (tie_key b) e in omega arith)
     (λ ne. let less = plan.agrees y z (omega arith) lz same in omega arith)
     (cases_eq y z)
 
--- and the one that is no earlier is no less
-pub no_less : (b : Board) → HasHospitals b → (y z : ℕ) → y < contract_count b → leaf_of b y ≡ leaf_of b z → place b.ties y ≤ place b.ties z → y ≤ z
+-- and the one that has no smaller key is no less
+pub no_less : (b : Board) → HasHospitals b → (y z : ℕ) → y < contract_count b → leaf_of b y ≡ leaf_of b z → tie_key b y ≤ tie_key b z → y ≤ z
 no_less b plan y z ly same le =
     ⊎_elim
     (λ less. absurd (let l = plan.agrees z y less ly (sym same) in omega arith))
@@ -106,10 +100,10 @@ nothing_lost b plan H h y lt ly t =
     inner_none b (λ k. last_step b H (node_at b k)) h y
     (λ k lk tk. subst (λ w. is_inside (sets_of b) k w ≡ false) (leaf_is b plan h y lt t) (nothing_inside b plan y k ly lk tk))
 
-pub leaf_best : (b : Board) → HasHospitals b → (H : List ℕ) → IsSetBelow (contract_count b) H → (h : ℕ) → h < length b.ranks → (leaf : Leaf) → IsLeafOf b H h leaf → (o : Option Removal) → IsOwnRemovalOf b.ties leaf.last o → IsBestAt b H h o
+pub leaf_best : (b : Board) → HasHospitals b → (H : List ℕ) → IsSetBelow (contract_count b) H → (h : ℕ) → h < length b.ranks → (leaf : Leaf) → IsLeafOf b H h leaf → (o : Option Removal) → IsOwnRemovalOf (tie_key b) leaf.last o → IsBestAt b H h o
 leaf_best b plan H sH h lt leaf k o own = by_last leaf.last k.last own
   where
-    by_last : (last : Option ℕ) → IsGreatestOf (heap_items leaf.held) last → IsOwnRemovalOf b.ties last o → IsBestAt b H h o
+    by_last : (last : Option ℕ) → IsGreatestOf (heap_items leaf.held) last → IsOwnRemovalOf (tie_key b) last o → IsBestAt b H h o
     by_last None none own = subst (IsBestAt b H h) (sym own) (λ y inH.
         ⊎_elim
         (λ t. absurd (not_in_nil y (subst (λ S. IsIn y S) none (member_from b H h y leaf k inH t))))
@@ -144,21 +138,6 @@ last_held b plan H h lt leaf k z e =
       greatest = λ y inH same. top.greatest y (member_from b H h y leaf k inH (leaf_test_is b plan h y lt ∙ eq-eqb (leaf_of b y) h (same ∙ leaf_z)));
     }
 
--- of the last contract of its own leaf, the numbers tell whether x comes before it in tie order
-pub last_agrees : (b : Board) → HasHospitals b → (H : List ℕ) → IsSetBelow (contract_count b) H → (h : ℕ) → h < length b.ranks → (leaf : Leaf) → IsLeafOf b H h leaf → (x : ℕ) → x < contract_count b → leaf_of b x ≡ h → AgreesWith b.ties x leaf.last
-last_agrees b plan H sH h lt leaf k x lx here = by_last leaf.last refl
-  where
-    by_last : (last : Option ℕ) → leaf.last ≡ last → AgreesWith b.ties x last
-    by_last None e = tt
-    by_last (Some z) e =
-        let is = last_held b plan H h lt leaf k z e in (
-          λ less. plan.agrees x z less (sH.below z is.held) (here ∙ sym is.leaf),
-          λ first. ⊎_elim
-              (λ less. less)
-              (λ ge. absurd (let late = later_tie b plan z x lx (is.leaf ∙ sym here) ge in omega (arith, late, first)))
-              (cases_lt x z),
-        )
-
 -- ---- one contract comes or goes
 
 and_true : (t : Bool) → (t && true) ≡ t
@@ -184,7 +163,7 @@ leaf_room b plan H x leaf sH lx new fits k =
     let room = k.room in
     omega arith
 
-pub leaf_with : (b : Board) (H : List ℕ) (h x : ℕ) (leaf next : Leaf) → has x H ≡ false → test_at b h x ≡ true → IsLeafOf b H h leaf → IsPermutation (x ∷ heap_items leaf.held) (heap_items next.held) → (IsHeap nat_cmp (heap_items leaf.held) → IsHeap nat_cmp (heap_items next.held)) → IsGreatestOf (heap_items next.held) next.last → IsTieOf b.ties next.last next.tie → next.cap ≡ leaf.cap → heap_capacity leaf.held ≤ heap_capacity next.held → IsLeafOf b (with_one H x) h next
+pub leaf_with : (b : Board) (H : List ℕ) (h x : ℕ) (leaf next : Leaf) → has x H ≡ false → test_at b h x ≡ true → IsLeafOf b H h leaf → IsPermutation (x ∷ heap_items leaf.held) (heap_items next.held) → (IsHeap nat_cmp (heap_items leaf.held) → IsHeap nat_cmp (heap_items next.held)) → IsGreatestOf (heap_items next.held) next.last → IsTieOf (tie_key b) next.last next.tie → next.cap ≡ leaf.cap → heap_capacity leaf.held ≤ heap_capacity next.held → IsLeafOf b (with_one H x) h next
 leaf_with b H h x leaf next new t k items order last tie cap wide = record {
   same = λ p.
       let pushed = sum_by_pushed (λ z. one (p z)) x (heap_items leaf.held) (heap_items next.held) items in
@@ -199,7 +178,7 @@ leaf_with b H h x leaf next new t k items order last tie cap wide = record {
   tie = tie;
 }
 
-pub leaf_without : (b : Board) (H : List ℕ) (h z : ℕ) (leaf next : Leaf) → IsSet H → IsIn z H → test_at b h z ≡ true → IsLeafOf b H h leaf → IsPermutation (heap_items leaf.held) (z ∷ heap_items next.held) → IsHeap nat_cmp (heap_items next.held) → IsGreatestOf (heap_items next.held) next.last → IsTieOf b.ties next.last next.tie → next.cap ≡ leaf.cap → heap_capacity next.held ≡ heap_capacity leaf.held → IsLeafOf b (without H z) h next
+pub leaf_without : (b : Board) (H : List ℕ) (h z : ℕ) (leaf next : Leaf) → IsSet H → IsIn z H → test_at b h z ≡ true → IsLeafOf b H h leaf → IsPermutation (heap_items leaf.held) (z ∷ heap_items next.held) → IsHeap nat_cmp (heap_items next.held) → IsGreatestOf (heap_items next.held) next.last → IsTieOf (tie_key b) next.last next.tie → next.cap ≡ leaf.cap → heap_capacity next.held ≡ heap_capacity leaf.held → IsLeafOf b (without H z) h next
 leaf_without b H h z leaf next sH inH t k items order last tie cap wide = record {
   same = λ p.
       let popped = sum_by_popped (λ y. one (p y)) z (heap_items leaf.held) (heap_items next.held) items in
@@ -301,7 +280,7 @@ empty_leaf b h leaf none room cap last order = record {
   order = order;
   cap = cap;
   last = subst (IsGreatestOf (heap_items leaf.held)) (sym last) none;
-  tie = subst (λ l. IsTieOf b.ties l leaf.tie) (sym last) tt;
+  tie = subst (λ l. IsTieOf (tie_key b) l leaf.tie) (sym last) tt;
 }
 
 -- one leaf more

@@ -14,7 +14,7 @@ use Rattle.rm_market.specs.Tree.{is_inside, parent}
 use Rattle.rm_laminar.specs.Chains.{IsOrderedChain}
 use Rattle.rm_laminar.proofs.Laminar.{chain-holds, holds-chain}
 use Rattle.rm_laminar.proofs.Parents.{splits, parent-next}
-use Rattle.rm_valuation_laws.specs.Scores.{place}
+use Rattle.rm_board.specs.TieKeys.{tie_key}
 use Rattle.rm_valuation_laws.specs.Changes.{last_step, test_at}
 use Rattle.rm_valuation_laws.specs.Order.{is_under}
 use Rattle.rm_valuation_laws.proofs.Order.{inside_once, under_tests}
@@ -62,20 +62,20 @@ best_at b H places width rivals a (Some best) plan sH placed la group wide right
       least = λ y inH t.
           let f = inner_node b plan a y la group (sH.below y inH) t in
           let there = at_home b plan f.0 a y f.1 f.2 f.3 in
-          subst (λ l. ComesFirstOf (inner_cost b H a best.contract) (place b.ties best.contract) l (place b.ties y)) (sym (there.lost H))
-          (subst (λ l. ComesFirstOf l (place b.ties best.contract) (whole_cost b H f.0 y) (place b.ties y)) (mine.loss ∙ sym (here.lost H))
-          (subst (λ t. ComesFirstOf best.loss t (whole_cost b H f.0 y) (place b.ties y)) mine.tie
+          subst (λ l. ComesFirstOf (inner_cost b H a best.contract) (tie_key b best.contract) l (tie_key b y)) (sym (there.lost H))
+          (subst (λ l. ComesFirstOf l (tie_key b best.contract) (whole_cost b H f.0 y) (tie_key b y)) (mine.loss ∙ sym (here.lost H))
+          (subst (λ t. ComesFirstOf best.loss t (whole_cost b H f.0 y) (tie_key b y)) mine.tie
           (rival f.0 y inH f.3 (entry_at rivals places f.0 a) refl (right f.0 f.1 f.2))));
       low = omega (arith, ints);
       high = omega (arith, ints);
     }
   where
-    rival : (c y : ℕ) → IsIn y H → test_at b c y ≡ true → (o : Option Removal) → entry_at rivals places c a ≡ o → IsEntry b H c o → ComesFirstOf best.loss best.tie (whole_cost b H c y) (place b.ties y)
+    rival : (c y : ℕ) → IsIn y H → test_at b c y ≡ true → (o : Option Removal) → entry_at rivals places c a ≡ o → IsEntry b H c o → ComesFirstOf best.loss best.tie (whole_cost b H c y) (tie_key b y)
     rival c y inH o None same entry = absurd (not_both (test_at b c y) o (entry y inH))
     rival c y inH o (Some s) same entry =
         let first : IsNoDearer best s = top.least (get_or places c 0) s same in
-        comes_first_trans best.loss best.tie s.loss s.tie (whole_cost b H c y) (place b.ties y) first
-        (subst (λ l. ComesFirstOf l s.tie (whole_cost b H c y) (place b.ties y)) (sym entry.loss) (subst (λ t. ComesFirstOf (whole_cost b H c s.contract) t (whole_cost b H c y) (place b.ties y)) (sym entry.tie) (entry.least y inH o)))
+        comes_first_trans best.loss best.tie s.loss s.tie (whole_cost b H c y) (tie_key b y) first
+        (subst (λ l. ComesFirstOf l s.tie (whole_cost b H c y) (tie_key b y)) (sym entry.loss) (subst (λ t. ComesFirstOf (whole_cost b H c s.contract) t (whole_cost b H c y) (tie_key b y)) (sym entry.tie) (entry.least y inH o)))
 
 -- ---- the entry of one node
 
@@ -95,7 +95,7 @@ more_entry b H c r lc range best =
       tie = best.tie;
       loss = ap (λ l. l +ℤ s) best.loss ∙ cost_is r.contract best.passes;
       least = λ y inH t.
-          more (inner_cost b H c r.contract) (place b.ties r.contract) (inner_cost b H c y) (place b.ties y) s (whole_cost b H c r.contract) (whole_cost b H c y) (cost_is r.contract best.passes) (cost_is y t) (best.least y inH t);
+          more (inner_cost b H c r.contract) (tie_key b r.contract) (inner_cost b H c y) (tie_key b y) s (whole_cost b H c r.contract) (whole_cost b H c y) (cost_is r.contract best.passes) (cost_is y t) (best.least y inH t);
       low = omega (arith, ints, range.0);
       high = omega (arith, ints, range.1);
     }
@@ -117,8 +117,8 @@ same_entry b H K c (Some r) sH sK agree entry = record {
   tie = entry.tie;
   loss = entry.loss ∙ same_cost b H K c r.contract sH sK agree;
   least = λ y inK t.
-      subst (λ l. ComesFirstOf (whole_cost b K c r.contract) (place b.ties r.contract) l (place b.ties y)) (same_cost b H K c y sH sK agree)
-      (subst (λ l. ComesFirstOf l (place b.ties r.contract) (whole_cost b H c y) (place b.ties y)) (same_cost b H K c r.contract sH sK agree) (entry.least y (agree y t ∙ inK) t));
+      subst (λ l. ComesFirstOf (whole_cost b K c r.contract) (tie_key b r.contract) l (tie_key b y)) (same_cost b H K c y sH sK agree)
+      (subst (λ l. ComesFirstOf l (tie_key b r.contract) (whole_cost b H c y) (tie_key b y)) (same_cost b H K c r.contract sH sK agree) (entry.least y (agree y t ∙ inK) t));
   low = entry.low;
   high = entry.high;
 }

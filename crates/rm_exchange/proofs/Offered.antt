@@ -1,7 +1,6 @@
 -- An offer to what a fast holder holds.
 use Rattle.std.proofs.lemmas.Int.{ints}
-use Rattle.std.proofs.Common.{not, ◌&&◌, map, ◌-ℤ◌, ◌≡◌, ◌∙◌, ℕ, ◌<◌, ◌≤◌, List, Bool, Option, Some, None, true, false, sym, ap, subst, ⊎_elim, arith}
-use Rattle.std.specs.Prelude.{IfSome}
+use Rattle.std.proofs.Common.{not, ◌&&◌, map, ◌-ℤ◌, ◌≡◌, ◌∙◌, ℕ, ◌<◌, ◌≤◌, List, true, false, sym, ap, subst, ⊎_elim, arith}
 use Rattle.std.proofs.lemmas.Bool.{cases_eq}
 use Rattle.rm_sets.specs.Sets.{has, IsIn, IsSet, IsSetBelow, IsWithin, with_one, without}
 use Rattle.rm_sets.proofs.Sets.{same_sets, IsSet-with_one, IsSet-without}
@@ -9,14 +8,13 @@ use Rattle.rm_sets.proofs.Members.{within_refl, IsIn-with_one_new, not_in_withou
 use Rattle.rm_market.specs.Best.{IsBest, IsValuation, best_of, values_of, swapped}
 use Rattle.rm_market.specs.Board.{Board, contract_count, leaf_of, node_at, int_sum}
 use Rattle.rm_valuation_laws.specs.Changes.{on, in_node, test_at, next_step, last_step}
-use Rattle.rm_valuation_laws.specs.Scores.{place}
+use Rattle.rm_board.specs.TieKeys.{tie_key}
 use Rattle.rm_valuation_laws.proofs.Moves.{with_other, without_other, swapped_new, swapped_old, swapped_other, apart}
 use Rattle.rm_valuation_laws.proofs.Offers.{IsSet-swapped}
 use Rattle.rm_valuation_laws.proofs.LaminarExchange.{board_laws}
 use Rattle.rm_valuation_laws.proofs.Best.{best_unique, choice_from_bests}
 use Rattle.rm_valuation_laws.proofs.BestOf.{best_of_is}
 use Rattle.rm_exchange.specs.declared.prospects.Prospects.{Prospects}
-use Rattle.rm_exchange.specs.declared.prospects.Swap.{Swap}
 use Rattle.rm_exchange.specs.declared.holding.Holding.{Holding}
 use Rattle.rm_exchange.specs.Entrants.{HasHospitals}
 use Rattle.rm_exchange.specs.Prospects.{swap_change, IsBestRated, IsBestRatedOf, IsSwapping, AreProspects}
@@ -32,17 +30,13 @@ valuation b plan = subst (λ n. IsValuation n (values_of b)) plan.leaves (board_
 pub own_best : (b : Board) (H : List ℕ) → HasHospitals b → IsSetBelow (contract_count b) H → best_of (values_of b) H ≡ H → IsBest (values_of b) H H
 own_best b H plan sH own = subst (IsBest (values_of b) H) own (best_of_is (contract_count b) (values_of b) H (valuation b plan) sH)
 
--- the tie of the best swap is the place of its contract
-pub swap_tie : (b : Board) (H : List ℕ) (x : ℕ) (test : ℕ → Bool) (o : Option Swap) → IsBestRatedOf b H x test o → IfSome o (λ s. s.tie ≡ place b.ties s.contract)
-swap_tie b H x test None best = tt
-swap_tie b H x test (Some s) best = best.tie
-
 pub offered : (b : Board) (places : List ℕ) (h : Holding) (x : ℕ) (p : Prospects) → IsHolding b places h → x < contract_count b → has x (held_in b h) ≡ false → AreProspects b (held_in b h) x p → IsOffer b (held_in b h) x p
 offered b places h x p ready lx new prospects =
     let plan = ready.kept.hospitals in
     let sH = held_set (contract_count b) h.marks.items in
     record {
       concave = plan.concave;
+      leaves = plan.leaves;
       set = subst (λ n. IsSetBelow n (held_in b h)) (sym plan.leaves) sH;
       contract = subst (λ n. x < n) (sym plan.leaves) lx;
       new = new;
@@ -79,7 +73,7 @@ displaced_greatest b H x p tie z plan sH prospects decided y inH same =
     let change = swap_change_of b H x y s.contract leaf ∙ sym best.change in
     ⊎_elim
     (λ less. absurd (omega (arith, ints, less, change)))
-    (λ tied. subst (λ w. y ≤ w) (sym z_is) (no_less b plan y s.contract (sH.below y inH) leaf (subst (λ w. place b.ties y ≤ w) best.tie tied.1)))
+    (λ tied. subst (λ w. y ≤ w) (sym z_is) (no_less b plan y s.contract (sH.below y inH) leaf (subst (λ w. tie_key b y ≤ w) best.tie tied.1)))
     (best.best y inH passes)
 
 -- x in the place of z is x held too, and z let go

@@ -13,7 +13,6 @@ use Rattle.rm_market.specs.Tree.{TreeOf, set_of, tree_sets}
 use Rattle.rm_market.specs.Tree as tree
 use Rattle.rm_laminar.specs.Chains.{IsLaminar}
 use Rattle.rm_laminar.proofs.Trees.{tree-length, set-hospital}
-use Rattle.rm_valuation_laws.specs.Scores.{place}
 use Rattle.rm_board_laws.proofs.Contracts.{pair_in}
 use Rattle.rm_valuation_laws.proofs.TieOrder.{place_from_before}
 use Rattle.rm_valuation_laws.proofs.Market.{concave_board}
@@ -21,6 +20,8 @@ use Rattle.rm_valuation_laws.proofs.Order.{set_is}
 use Rattle.rm_valuation_laws.proofs.BestOf.{best_of_is}
 use Rattle.rm_valuation.specs.Counts.{AreCounts}
 use Rattle.rm_valuation.proofs.Counted.{counted_none}
+use Rattle.rm_board.specs.TieKeys.{tie_key}
+use Rattle.rm_board.proofs.TieKeys.{key_order}
 use Rattle.rm_exchange.specs.declared.removal.Removal.{Removal}
 use Rattle.rm_exchange.specs.declared.holding.Holding.{Holding}
 use Rattle.rm_exchange.specs.Entrants.{HasHospitals, IsEntry}
@@ -73,14 +74,14 @@ laminar doctors b ok = record {
         (λ ge. subst (λ n. IsSet n.leaves) (sym (get_or_past b.nodes k no_node ge)) IsSet-nil)
         (cases_lt k (length b.nodes))
 
--- of two contracts with one leaf the lower number stands before
-agrees : (doctors : ℕ) (b : Board) → IsBoard doctors b → (x y : ℕ) → x < y → y < contract_count b → leaf_of b x ≡ leaf_of b y → place b.ties x < place b.ties y
+-- of two contracts with one leaf the lower number has the smaller tie key
+agrees : (doctors : ℕ) (b : Board) → IsBoard doctors b → (x y : ℕ) → x < y → y < contract_count b → leaf_of b x ≡ leaf_of b y → tie_key b x < tie_key b y
 agrees doctors b ok x y lt ly same =
     let lx : x < contract_count b = omega arith in
     let n = ok.hospitals (hospital_of b x) (let below = (pair_in 0 b.ranks x lx).1 in omega arith) in
     let mine : IsIn (leaf_of b x) n.1.leaves = (n.3 x lx).1 refl in
     let other : hospital_of b y ≡ hospital_of b x = (n.3 y ly).0 (subst (λ w. IsIn w n.1.leaves) same mine) in
-    place_from_before x y b.ties ok.ties.once (ok.ties.agrees x y lt ly (sym other))
+    (key_order b (λ z lz. (ok.ties.all z).1 lz) x y lx ly).1 (place_from_before x y b.ties ok.ties.once (ok.ties.agrees x y lt ly (sym other)))
 
 pub has_hospitals : (doctors : ℕ) (b : Board) → IsBoard doctors b → length b.ranks ≤ length b.nodes → ((h : ℕ) → h < length b.ranks → set_of (sets_of b) h ≡ h ∷ []) → ((x : ℕ) → x < contract_count b → leaf_of b x < length b.ranks) → HasHospitals b
 has_hospitals doctors b ok nodes own leaf = record { concave = concave_board doctors b ok; laminar = laminar doctors b ok; leaves = ok.leaves; nodes = nodes; own = own; leaf = leaf; agrees = agrees doctors b ok }

@@ -9,7 +9,7 @@ use Rattle.std.proofs.lemmas.Bool.{cases_eq, cases_lt, cases_Bool, and_parts, an
 use Rattle.rm_sets.proofs.Sets.{not_both}
 use Rattle.rm_market.specs.Board.{Board, sets_of}
 use Rattle.rm_market.specs.Tree.{parent, equals_number}
-use Rattle.rm_valuation_laws.specs.Scores.{place}
+use Rattle.rm_board.specs.TieKeys.{tie_key}
 use Rattle.rm_valuation_laws.proofs.Score.{cases_int}
 use Rattle.rm_exchange.specs.declared.removal.Removal.{Removal}
 use Rattle.rm_exchange.specs.declared.holding.Holding.{Holding}
@@ -39,14 +39,14 @@ first_from l t m u h =
     above (inl lt) gt = omega (arith, ints)
     above (inr tie) gt = let e = tie.0 in omega (arith, ints)
 
-least_from : (ties H : List ℕ) (test : ℕ → Bool) (lost : ℕ → ℤ) (size : ℕ) (o : Option Removal) → ∥ IsLeastOf ties H test lost size o ∥₁ → IsLeastOf ties H test lost size o
-least_from ties H test lost size None t = λ y inH. ∥∥₁_elim t (Prim.hlevel props) (λ f. f y inH)
-least_from ties H test lost size (Some r) t = record {
+least_from : (key : ℕ → ℕ) (H : List ℕ) (test : ℕ → Bool) (lost : ℕ → ℤ) (size : ℕ) (o : Option Removal) → ∥ IsLeastOf key H test lost size o ∥₁ → IsLeastOf key H test lost size o
+least_from key H test lost size None t = λ y inH. ∥∥₁_elim t (Prim.hlevel props) (λ f. f y inH)
+least_from key H test lost size (Some r) t = record {
   held = ∥∥₁_elim t (Prim.hlevel props) (λ k. k.held);
   passes = ∥∥₁_elim t (Prim.hlevel props) (λ k. k.passes);
   tie = ∥∥₁_elim t (Prim.hlevel props) (λ k. k.tie);
   loss = ∥∥₁_elim t (Prim.hlevel props) (λ k. k.loss);
-  least = λ y inH u. first_from (lost r.contract) (place ties r.contract) (lost y) (place ties y) (∥∥₁_elim t (Prim.hlevel props) (λ k. ∣ k.least y inH u ∣₁));
+  least = λ y inH u. first_from (lost r.contract) (key r.contract) (lost y) (key y) (∥∥₁_elim t (Prim.hlevel props) (λ k. ∣ k.least y inH u ∣₁));
   low = ∥∥₁_elim t (Prim.hlevel props) (λ k. k.low);
   high = ∥∥₁_elim t (Prim.hlevel props) (λ k. k.high);
 }
@@ -84,9 +84,9 @@ greatest_from items (Some x) t = record {
   greatest = λ y i. ∥∥₁_elim t (Prim.hlevel props) (λ k. k.greatest y i);
 }
 
-tie_from : (ties : List ℕ) (o : Option ℕ) (tie : ℕ) → ∥ IsTieOf ties o tie ∥₁ → IsTieOf ties o tie
-tie_from ties None tie t = tt
-tie_from ties (Some x) tie t = ∥∥₁_elim t (Prim.hlevel props) (λ f. f)
+tie_from : (key : ℕ → ℕ) (o : Option ℕ) (tie : ℕ) → ∥ IsTieOf key o tie ∥₁ → IsTieOf key o tie
+tie_from key None tie t = tt
+tie_from key (Some x) tie t = ∥∥₁_elim t (Prim.hlevel props) (λ f. f)
 
 leaf_from : (b : Board) (H : List ℕ) (h : ℕ) (leaf : Leaf) → ∥ IsLeafOf b H h leaf ∥₁ → IsLeafOf b H h leaf
 leaf_from b H h leaf t = record {
@@ -95,7 +95,7 @@ leaf_from b H h leaf t = record {
   order = ∥∥₁_elim t (IsHeap-prop nat_cmp (heap_items leaf.held)) (λ k. k.order);
   cap = ∥∥₁_elim t (Prim.hlevel props) (λ k. k.cap);
   last = greatest_from (heap_items leaf.held) leaf.last (∥∥₁_elim t (Prim.hlevel props) (λ k. ∣ k.last ∣₁));
-  tie = tie_from b.ties leaf.last leaf.tie (∥∥₁_elim t (Prim.hlevel props) (λ k. ∣ k.tie ∣₁));
+  tie = tie_from (tie_key b) leaf.last leaf.tie (∥∥₁_elim t (Prim.hlevel props) (λ k. ∣ k.tie ∣₁));
 }
 
 pub kept_from : (b : Board) (places : List ℕ) (h : Holding) → ∥ IsAllKept b places h ∥₁ → IsAllKept b places h
@@ -121,5 +121,5 @@ kept_from b places h t = record {
     once = λ e f a le lf hm g s. ∥∥₁_elim t (Prim.hlevel props) (λ k. k.placed.once e f a le lf hm g s);
     filled = λ a i la lt. found_from b places (length b.nodes) a i (∥∥₁_elim t (Prim.hlevel props) (λ k. ∣ k.placed.filled a i la lt ∣₁));
   };
-  entries = λ e a le hm all. least_from b.ties _ _ _ _ _ (∥∥₁_elim t (Prim.hlevel props) (λ k. ∣ k.entries e a le hm all ∣₁));
+  entries = λ e a le hm all. least_from (tie_key b) _ _ _ _ _ (∥∥₁_elim t (Prim.hlevel props) (λ k. ∣ k.entries e a le hm all ∣₁));
 }

@@ -12,7 +12,7 @@ use Rattle.rm_market.specs.Tree.{is_inside, chain}
 use Rattle.rm_laminar.specs.Chains.{IsOrderedChain}
 use Rattle.rm_laminar.proofs.Laminar.{holds-chain}
 use Rattle.rm_laminar.proofs.Parents.{splits}
-use Rattle.rm_valuation_laws.specs.Scores.{place}
+use Rattle.rm_board.specs.TieKeys.{tie_key}
 use Rattle.rm_valuation_laws.specs.Changes.{sum_upto, next_step, test_at}
 use Rattle.rm_valuation_laws.specs.Order.{is_under}
 use Rattle.rm_valuation_laws.specs.Offers.{IsFull}
@@ -98,20 +98,20 @@ step_at b plan H sH x lx nodes ch i lt gained swap w =
           ∙ rate_is b plan.concave H a x z here.0 here.1 t (λ k lk kx kz inside. not_both (prior b nodes i z) (prior_under b nodes i k z (sym (inside_prior b plan x lx nodes ch i lt k lk kx) ∙ inside) kz) new);
     }
 
-fresh_below : (b : Board) (H : List ℕ) (x : ℕ) (before : ℕ → Bool) (a : ℕ) (gained : ℤ) (r : Removal) (n : Swap) → IsStep b H x before a gained → IsBestAt b H a (Some r) → n.change ≡ gained -ℤ r.loss → n.tie ≡ r.tie → (y : ℕ) → IsIn y H → test_at b a y ≡ true → before y ≡ false → IsNoGreater (swap_change b H x y) (place b.ties y) n.change n.tie
+fresh_below : (b : Board) (H : List ℕ) (x : ℕ) (before : ℕ → Bool) (a : ℕ) (gained : ℤ) (r : Removal) (n : Swap) → IsStep b H x before a gained → IsBestAt b H a (Some r) → n.change ≡ gained -ℤ r.loss → n.tie ≡ r.tie → (y : ℕ) → IsIn y H → test_at b a y ≡ true → before y ≡ false → IsNoGreater (swap_change b H x y) (tie_key b y) n.change n.tie
 fresh_below b H x before a gained r n s best change tie y inH t new =
-    less (inner_cost b H a r.contract) (place b.ties r.contract) (inner_cost b H a y) (place b.ties y) gained r.loss (swap_change b H x y) n.change n.tie best.loss (s.exact y inH t new) change (tie ∙ best.tie) (best.least y inH t)
+    less (inner_cost b H a r.contract) (tie_key b r.contract) (inner_cost b H a y) (tie_key b y) gained r.loss (swap_change b H x y) n.change n.tie best.loss (s.exact y inH t new) change (tie ∙ best.tie) (best.least y inH t)
   where
     less : (l : ℤ) (t : ℕ) (m : ℤ) (u : ℕ) (g k c d : ℤ) (v : ℕ) → k ≡ l → (g -ℤ m) ≡ c → d ≡ g -ℤ k → v ≡ t → ComesFirstOf l t m u → IsNoGreater c u d v
     less l t m u g k c d v e f h o (inl lt) = inl (omega (arith, ints))
     less l t m u g k c d v e f h o (inr tie) = let same = tie.0 in let le = tie.1 in inr (omega (arith, ints), omega arith)
 
 new_best : (b : Board) (H : List ℕ) (x : ℕ) (before : ℕ → Bool) (a : ℕ) (gained : ℤ) (r : Removal) (n : Swap) → IsStep b H x before a gained → IsBestAt b H a (Some r) → n.contract ≡ r.contract → n.change ≡ gained -ℤ r.loss → n.tie ≡ r.tie → before r.contract ≡ false
-    → ((y : ℕ) → IsIn y H → before y ≡ true → IsNoGreater (swap_change b H x y) (place b.ties y) n.change n.tie) → IsBestRated b H x (test_at b a) n
+    → ((y : ℕ) → IsIn y H → before y ≡ true → IsNoGreater (swap_change b H x y) (tie_key b y) n.change n.tie) → IsBestRated b H x (test_at b a) n
 new_best b H x before a gained r n s best contract change tie new older = record {
   held = subst (λ w. IsIn w H) (sym contract) best.held;
   passes = ap (test_at b a) contract ∙ best.passes;
-  tie = tie ∙ (best.tie ∙ ap (place b.ties) (sym contract));
+  tie = tie ∙ (best.tie ∙ ap (tie_key b) (sym contract));
   change = change ∙ (ap (λ l. gained -ℤ l) best.loss ∙ (s.exact r.contract best.held best.passes new ∙ ap (swap_change b H x) (sym contract)));
   best = λ y inH t. ⊎_elim (λ old. older y inH old) (λ fresh. fresh_below b H x before a gained r n s best change tie y inH t fresh) (cases_Bool (before y));
 }
@@ -121,13 +121,13 @@ swap_compared b H x before a gained t n r s old best contract change tie true e 
     let above = exceeds_is t n e in
     let new : before r.contract ≡ false =
     ⊎_elim
-    (λ yes. absurd (not_exceeded n.change (swap_change b H x r.contract) t.change (place b.ties r.contract) t.tie (subst (λ w. (t.change <ℤ n.change) ⊎ ((t.change ≡ n.change) × (t.tie < w))) (tie ∙ best.tie) above)
+    (λ yes. absurd (not_exceeded n.change (swap_change b H x r.contract) t.change (tie_key b r.contract) t.tie (subst (λ w. (t.change <ℤ n.change) ⊎ ((t.change ≡ n.change) × (t.tie < w))) (tie ∙ best.tie) above)
     (subst (λ l. l ≤ℤ swap_change b H x r.contract) (sym (change ∙ ap (λ l. gained -ℤ l) best.loss)) (s.at_most r.contract best.held best.passes)) (old.best r.contract best.held yes)))
     (λ no. no)
     (cases_Bool (before r.contract))
     in
     subst (IsBestRatedOf b H x (test_at b a)) (sym (ap (λ d. cond d (Some n) (Some t)) e))
-    (new_best b H x before a gained r n s best contract change tie new (λ y inH yes. no_better_trans (swap_change b H x y) (place b.ties y) t.change t.tie n.change n.tie (old.best y inH yes) (weaker t.change t.tie n.change n.tie above)))
+    (new_best b H x before a gained r n s best contract change tie new (λ y inH yes. no_better_trans (swap_change b H x y) (tie_key b y) t.change t.tie n.change n.tie (old.best y inH yes) (weaker t.change t.tie n.change n.tie above)))
 swap_compared b H x before a gained t n r s old best contract change tie false e =
     let kept : IsBestRatedOf b H x (test_at b a) (Some t) = record {
       held = old.held;
@@ -136,7 +136,7 @@ swap_compared b H x before a gained t n r s old best contract change tie false e
       change = old.change;
       best = λ y inH here. ⊎_elim
           (λ yes. old.best y inH yes)
-          (λ no. no_better_trans (swap_change b H x y) (place b.ties y) n.change n.tie t.change t.tie (fresh_below b H x before a gained r n s best change tie y inH here no) (exceeds_isnt t n e))
+          (λ no. no_better_trans (swap_change b H x y) (tie_key b y) n.change n.tie t.change t.tie (fresh_below b H x before a gained r n s best change tie y inH here no) (exceeds_isnt t n e))
           (cases_Bool (before y));
     } in
     subst (IsBestRatedOf b H x (test_at b a)) (sym (ap (λ d. cond d (Some n) (Some t)) e)) kept

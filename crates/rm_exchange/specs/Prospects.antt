@@ -1,12 +1,12 @@
 -- Of private calls: what an offer may change: its addition, the swaps for it, and which of them is made.
-use Rattle.std.specs.Prelude.{◌≡◌, ◌↔◌, ◌⊎◌, ℕ, ◌<◌, ◌≤◌, Bool, ◌&&◌, ◌||◌, nat_lt, List, length, ℤ, pos, ◌-ℤ◌, ◌≤ℤ◌, ◌<ℤ◌, int_lt, Option, Some, None, IsTrue, IsFalse, if◌then◌else◌}
+use Rattle.std.specs.Prelude.{◌≡◌, ◌⊎◌, ℕ, ◌<◌, ◌≤◌, Bool, ◌&&◌, ◌||◌, nat_lt, List, length, ℤ, pos, ◌-ℤ◌, ◌≤ℤ◌, ◌<ℤ◌, int_lt, Option, Some, None, IsTrue, IsFalse, if◌then◌else◌}
 use Rattle.std.specs.Ordering.{int_eq}
 use Rattle.rm_sets.specs.Sets.{IsIn, with_one}
 use Rattle.rm_market.specs.Board.{Board, node_at, sets_of, is_feasible}
 use Rattle.rm_market.specs.Tree.{is_inside}
 use Rattle.rm_market.specs.declared.Outcome.{Outcome}
 use Rattle.rm_market.specs.declared.Outcome.TheVariants as out
-use Rattle.rm_valuation_laws.specs.Scores.{place}
+use Rattle.rm_board.specs.TieKeys.{tie_key}
 use Rattle.rm_valuation_laws.specs.Changes.{test_at, gain, swap_gain, swap_loss}
 use Rattle.rm_valuation_laws.specs.Offers.{IsFull, IsInside}
 use Rattle.rm_exchange.specs.declared.removal.Removal.{Removal}
@@ -19,7 +19,7 @@ use Rattle.rm_exchange.specs.declared.prospects.Prospects.{Prospects}
 abbrev pub swap_change : Board → List ℕ → ℕ → ℕ → ℤ
 swap_change b H x z = swap_gain b H x z -ℤ swap_loss b H x z
 
--- of the changes and the places in tie order of two swaps: the second one changes the worth by more, or by as much, and isn't first in tie order
+-- of the changes and the tie keys of two swaps: the second one changes the worth by more, or by as much, and isn't first in tie order
 abbrev pub IsNoGreater : ℤ → ℕ → ℤ → ℕ → Type 0
 IsNoGreater change tie other_change other_tie = (change <ℤ other_change) ⊎ ((change ≡ other_change) × (tie ≤ other_tie))
 
@@ -27,9 +27,9 @@ IsNoGreater change tie other_change other_tie = (change <ℤ other_change) ⊎ (
 pub record IsBestRated (b : Board) (H : List ℕ) (x : ℕ) (test : ℕ → Bool) (s : Swap) : Type 0 where
   pub held : IsIn s.contract H
   pub passes : IsTrue (test s.contract)
-  pub tie : s.tie ≡ place b.ties s.contract
+  pub tie : s.tie ≡ tie_key b s.contract
   pub change : s.change ≡ swap_change b H x s.contract
-  pub best : (y : ℕ) → IsIn y H → IsTrue (test y) → IsNoGreater (swap_change b H x y) (place b.ties y) s.change s.tie
+  pub best : (y : ℕ) → IsIn y H → IsTrue (test y) → IsNoGreater (swap_change b H x y) (tie_key b y) s.change s.tie
 
 -- that swap, or that there is none
 abbrev pub IsBestRatedOf : Board → List ℕ → ℕ → (ℕ → Bool) → Option Swap → Type 0
@@ -67,11 +67,6 @@ pub record AreProspects (b : Board) (H : List ℕ) (x : ℕ) (p : Prospects) : T
   pub addition : IsOwnAddition b H x node p.addition
 
 -- ---- the decision
-
--- x comes before the other contract in tie order exactly where it has the lower number
-abbrev pub AgreesWith : List ℕ → ℕ → Option ℕ → Type 0
-AgreesWith ties x None = Unit {0}
-AgreesWith ties x (Some z) = (x < z) ↔ (place ties x < place ties z)
 
 -- an addition that doesn't lower the worth, and that the swap doesn't exceed
 abbrev pub IsKeeping : Prospects → Type 0

@@ -163,9 +163,8 @@ fn offer(board: &Board, places: &[usize], holding: &mut Holding, x: u32) -> Outc
     if leaf.is_full() {
         return offer_to_full(board, places, holding, x);
     }
-    let last = leaf.last;
     let prospects = walk(board, holding, x);
-    match decide(board, prospects, x, last) {
+    match decide(board, prospects, x) {
         Outcome::Kept => {
             hold(board, places, holding, x);
             Outcome::Kept

@@ -6,6 +6,7 @@ ghost use Rattle.std.specs.List.Sorted.{IsPermutation};
 ghost use Rattle.std.specs.BinaryHeap.{heap_items, heap_len, heap_capacity, IsHeap, KeepsHeap};
 ghost use Rattle.rm_sets.specs.Sets.{IsIn, below};
 ghost use Rattle.rm_market.specs.Board.{contract_count, leaf_of, count_at};
+ghost use Rattle.rm_board.specs.TieKeys.{tie_key};
 ghost use Rattle.rm_exchange.specs.Leaves.{IsGreatestOf, IsOwnRemovalOf, IsTieOf, room_at, AreLeaves};
 
 use crate::removal::Removal;
@@ -14,9 +15,9 @@ use rm_choice::NoMemory;
 use std::alloc::Global;
 use std::collections::BinaryHeap;
 
-// The held contracts of a hospital, how many its own node may hold, and the held contract of greatest number with its place in
-// tie order, which means nothing where no contract is held. That one is the cheapest to displace: no node lies inside a
-// hospital's own, and of its contracts the greatest number is the last in tie order.
+// The held contracts of a hospital, how many its own node may hold, and the held contract of greatest number with its tie key,
+// which means nothing where no contract is held. That one is the cheapest to displace: no node lies inside a hospital's own, and
+// of its contracts the greatest number is the last in tie order.
 #[derive(Drop)]
 pub struct Leaf {
     pub held: BinaryHeap<u32>,
@@ -36,7 +37,7 @@ impl Leaf {
 
 // The removal of the last contract of a hospital, by itself, if it holds any.
 pub(crate) fn last_removal(leaf: &Leaf) -> Option<Removal>
-    ensures { (ties : List ℕ) → IsTieOf ties leaf.now.last leaf.now.tie → IsOwnRemovalOf ties leaf.now.last result }
+    ensures { (key : ℕ → ℕ) → IsTieOf key leaf.now.last leaf.now.tie → IsOwnRemovalOf key leaf.now.last result }
 {
     let Some(x) = leaf.last else {
         return None;
@@ -59,13 +60,13 @@ fn greatest(held: &BinaryHeap<u32>) -> Option<u32>
     Some(*x)
 }
 
-// The place of a contract in tie order, or 0 if there is none.
+// The tie key of a contract, or 0 if there is none.
 fn tie_of(board: &Board, last: Option<u32>) -> u32
     requires { IfSome last (λ x. x < contract_count board.now) }
-    ensures { IsTieOf board.now.ties last result }
+    ensures { IsTieOf (tie_key board.now) last result }
 {
     match last {
-        Some(x) => board.tie(x),
+        Some(x) => board.tie_key(x),
         None => 0,
     }
 }
@@ -75,11 +76,11 @@ pub(crate) fn put_in(board: &Board, leaf: &mut Leaf, x: u32)
     requires contract { x < contract_count board.now }
     requires room { heap_len leaf.old.held < heap_capacity leaf.old.held }
     requires last { IsGreatestOf (heap_items leaf.old.held) leaf.old.last }
-    requires tie { IsTieOf board.now.ties leaf.old.last leaf.old.tie }
+    requires tie { IsTieOf (tie_key board.now) leaf.old.last leaf.old.tie }
     ensures items { IsPermutation (x ∷ heap_items leaf.old.held) (heap_items leaf.new.held) }
     ensures order { KeepsHeap nat_cmp (heap_items leaf.old.held) (heap_items leaf.new.held) }
     ensures last { IsGreatestOf (heap_items leaf.new.held) leaf.new.last }
-    ensures tie { IsTieOf board.now.ties leaf.new.last leaf.new.tie }
+    ensures tie { IsTieOf (tie_key board.now) leaf.new.last leaf.new.tie }
     ensures cap { leaf.new.cap ≡ leaf.old.cap }
     ensures room { heap_capacity leaf.old.held ≤ heap_capacity leaf.new.held }
 {
@@ -92,7 +93,7 @@ pub(crate) fn put_in(board: &Board, leaf: &mut Leaf, x: u32)
         }
     }
     leaf.last = Some(x);
-    leaf.tie = board.tie(x);
+    leaf.tie = board.tie_key(x);
 }
 
 // Lets the greatest contract go.
@@ -102,7 +103,7 @@ pub(crate) fn take_greatest(board: &Board, leaf: &mut Leaf)
     ensures items { (z : ℕ) → IsIn z (heap_items leaf.old.held) → ((y : ℕ) → IsIn y (heap_items leaf.old.held) → y ≤ z) → IsPermutation (heap_items leaf.old.held) (z ∷ heap_items leaf.new.held) }
     ensures order { IsHeap nat_cmp (heap_items leaf.new.held) }
     ensures last { IsGreatestOf (heap_items leaf.new.held) leaf.new.last }
-    ensures tie { IsTieOf board.now.ties leaf.new.last leaf.new.tie }
+    ensures tie { IsTieOf (tie_key board.now) leaf.new.last leaf.new.tie }
     ensures cap { leaf.new.cap ≡ leaf.old.cap }
     ensures room { heap_capacity leaf.new.held ≡ heap_capacity leaf.old.held }
 {

@@ -1,18 +1,18 @@
 // What an offer may change: its addition, and the best swap for it.
 
-ghost use Rattle.std.specs.Prelude.{◌≡◌, ◌↔◌, ◌<◌, ◌-ℤ◌, ◌≤ℤ◌, ◌^◌, pos, ℕ, List, IfSome, IsTrue, IsFalse};
+ghost use Rattle.std.specs.Prelude.{◌≡◌, ◌<◌, ◌-ℤ◌, ◌≤ℤ◌, ◌^◌, pos, ℕ, List, IfSome, IsTrue, IsFalse};
 ghost use Rattle.rm_market.specs.Board.{contract_count, is_feasible};
 ghost use Rattle.rm_exchange.specs.Holding.{held_in, IsAllKept};
-ghost use Rattle.rm_exchange.specs.Prospects.{greater_swap, AgreesWith, IsRated, AreProspects, IsDecided};
+ghost use Rattle.rm_exchange.specs.Prospects.{greater_swap, IsRated, AreProspects, IsDecided};
 ghost use Rattle.rm_sets.specs.Sets.{has};
-ghost use Rattle.rm_valuation_laws.specs.Scores.{place};
+ghost use Rattle.rm_board.specs.TieKeys.{tie_key};
 
 use crate::holding::{Holding, chain_of, cheapest_at};
 use crate::removal::Removal;
 use rm_board::Board;
 use rm_market::Outcome;
 
-// A held contract whose place an offer may take: its place in tie order, and what the swap changes in the worth.
+// A held contract whose place an offer may take: its tie key, and what the swap changes in the worth.
 #[derive(Clone, Copy)]
 pub struct Swap {
     pub contract: u32,
@@ -89,27 +89,11 @@ pub(crate) fn walk(board: &Board, holding: &Holding, x: u32) -> Prospects
     }
 }
 
-// Whether contract x comes before the contract of a swap in tie order. If that is the last one of its own hospital, the numbers
-// tell, and no place in tie order is looked up.
-fn comes_before(board: &Board, x: u32, swap: Swap, last: Option<u32>) -> bool
-    requires contract { x < contract_count board.now }
-    requires tie { swap.tie ≡ place board.now.ties swap.contract }
-    requires last { AgreesWith board.now.ties x last }
-    ensures { IsTrue result ↔ (place board.now.ties x < swap.tie) }
-{
-    if last == Some(swap.contract) {
-        return x < swap.contract;
-    }
-    board.tie(x) < swap.tie
-}
-
 // What an offer of contract x does: an addition that doesn't lower the worth and isn't exceeded by the swap, else a swap that
-// raises the worth, or leaves it and comes first in tie order. `last` is the last contract held at its hospital.
-pub(crate) fn decide(board: &Board, prospects: Prospects, x: u32, last: Option<u32>) -> Outcome
-    requires contract { x < contract_count board.now }
-    requires tie { IfSome prospects.swap (λ s. s.tie ≡ place board.now.ties s.contract) }
-    requires last { AgreesWith board.now.ties x last }
-    ensures { IsDecided prospects (place board.now.ties x) result }
+// raises the worth, or leaves it and comes first in tie order, as the tie keys tell.
+pub(crate) fn decide(board: &Board, prospects: Prospects, x: u32) -> Outcome
+    requires { x < contract_count board.now }
+    ensures { IsDecided prospects (tie_key board.now x) result }
 {
     let Some(swap) = prospects.swap else {
         return match prospects.addition {
@@ -122,7 +106,7 @@ pub(crate) fn decide(board: &Board, prospects: Prospects, x: u32, last: Option<u
             return Outcome::Kept;
         }
     }
-    if swap.change > 0 || (swap.change == 0 && comes_before(board, x, swap, last)) {
+    if swap.change > 0 || (swap.change == 0 && board.tie_key(x) < swap.tie) {
         return Outcome::Swapped(swap.contract);
     }
     Outcome::Refused

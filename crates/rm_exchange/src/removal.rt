@@ -3,7 +3,7 @@
 ghost use Rattle.std.specs.Prelude.{◌≡◌, ◌↔◌, IsTrue};
 ghost use Rattle.rm_exchange.specs.Removals.{cheapest};
 
-// A held contract that may be displaced: what is lost without it at the nodes so far, and its place in tie order.
+// A held contract that may be displaced: what is lost without it at the nodes so far, and its tie key.
 #[derive(Clone, Copy)]
 pub struct Removal {
     pub contract: u32,

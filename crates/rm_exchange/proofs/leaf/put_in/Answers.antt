@@ -1,7 +1,6 @@
 use Rattle.std.proofs.Common.{◌∷◌, subst, sym}
 use Rattle.std.specs.List.Sorted.{IsPermutation}
 use Rattle.std.specs.BinaryHeap.{heap_items}
-use Rattle.rm_valuation_laws.proofs.TieOrder.{place_is}
 use Rattle.rm_exchange.specs.Leaves.{IsGreatestOf}
 use Rattle.rm_exchange.proofs.Greatest.{still_greatest, new_greatest, no_more, none_before, from_on_ok}
 use Rattle.rm_exchange.proofs.leaf.put_in.Goals as goal
@@ -24,4 +23,4 @@ returns-clause-last c =
     p
 
 pub returns-clause-tie : goal.returns-clause-tie
-returns-clause-tie c = sym (place_is c.args.board.now.ties c.args.x c.tie-leaf.result c.tie-leaf.ensures)
+returns-clause-tie c = c.tie_key-leaf.ensures
