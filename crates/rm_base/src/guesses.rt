@@ -63,8 +63,8 @@ impl Clue {
 /// that finds its bucket full is not noted, so that a number is a hint alone.
 #[derive(Drop)]
 pub struct Guesses {
-    // Of each bucket the tags of the names noted there, which are 0 where none is noted. There is no bucket, or a power of two,
-    // which the end of a hash chooses from.
+    // Of each bucket the tags of the names noted there, which are 0 where none is noted. There are no buckets, or a power of two of
+    // them, and the low bits of a hash choose one.
     tags: Vec<[u8; ROOM]>,
     // Of each bucket the numbers of these names.
     numbers: Vec<[u32; ROOM]>,
@@ -79,7 +79,7 @@ impl Guesses {
         }
     }
 
-    /// Has buckets enough for so many names, from 0. NoMemory is the one error.
+    /// Has a bucket for every two of so many names, from 0, and of 1,000,000 at most. NoMemory is the one error.
     pub fn with_capacity(alloc: Global, count: u32) -> Result<Guesses, NoMemory> {
         let wanted = count.min(MOST_GUESSED) as usize / 2 + 1;
         let buckets = wanted.next_power_of_two();
@@ -112,7 +112,7 @@ impl Guesses {
         }
     }
 
-    /// The number noted first for a name, or for one that looks like it.
+    /// The number noted first for a name, or for one that looks like it. None where there is none.
     pub fn get(&self, clue: &Clue) -> Option<u32> {
         let place = self.place(clue);
         let tags = self.tags.get(place)?;

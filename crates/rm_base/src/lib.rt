@@ -107,7 +107,8 @@ impl Names {
                 None => Added::NoMemory,
             };
         };
-        // Noted first, so that the bucket comes from memory while the set is asked. A name that is held keeps its first note.
+        // Noted first, so that the bucket comes from memory while the set is asked. A wrong note may stay, of a name that is held or
+        // that finds no memory; it costs time alone.
         self.guesses.note(&Clue::of(name), self.set.len() as u32);
         let Ok((n, is_new)) = self.set.insert_full(kept) else {
             return Added::NoMemory;
@@ -125,8 +126,9 @@ impl Names {
         self.find_from(name, self.guess(&Clue::of(name)))
     }
 
-    /// A number to look at first for a name, found at small cost. Where the name is held it is mostly its number, though
-    /// it may be another's. To guess for many names before any is found is faster than to find each.
+    /// A number to look at first for the name of a clue, found at small cost. Where the name is held it is mostly its number, though
+    /// it may be another's. None says nothing: the name may be held. To guess for many names before any is found is faster than to
+    /// find each.
     pub fn guess(&self, clue: &Clue) -> Option<u32>
         ensures { IfSome result (λ n. n < length self.now) }
     {
@@ -152,8 +154,8 @@ impl Names {
         n < self.len() && self.bytes(n) == name.as_bytes()
     }
 
-    /// Whether there is a name with the number n, and it is as long as the name of a clue. To ask this of many guesses, before
-    /// any is compared in full, brings their names from memory in one wait for all.
+    /// Whether there is a name with the number n, and it has as many bytes as the name of a clue. To ask this of many guesses, before
+    /// any is compared in full, lets the waits for their names in memory overlap.
     pub fn fits(&self, n: u32, clue: &Clue) -> bool
         ensures { IsTrue result ↔ (option_map length (slice_get self.now n) ≡ Some clue.now) }
     {

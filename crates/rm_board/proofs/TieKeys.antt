@@ -108,15 +108,6 @@ module _ (key : ℕ → ℕ) (xs : List ℕ) (up : ascends key xs ≡ true) wher
     | inr more ↦ let same : key x ≡ key y = same-place x y x-there y-there (omega arith) in omega (arith, same)
   ]
 
-  same-key : (x y : ℕ) → IsIn x xs → IsIn y xs → key x ≡ key y → place xs x ≡ place xs y
-  same-key x y x-there y-there same = elim (cases_lt (place xs x) (place xs y)) [
-    | inl less ↦ let lt = rises x y x-there y-there less in absurd (omega (arith, lt, same))
-    | inr more ↦ elim (cases_lt (place xs y) (place xs x)) [
-      | inl less ↦ let lt = rises y x y-there x-there less in absurd (omega (arith, lt, same))
-      | inr other ↦ omega (arith, more, other)
-    ]
-  ]
-
   order-is : (x y : ℕ) → IsIn x xs → IsIn y xs → (key x < key y) ↔ (place xs x < place xs y)
   order-is x y x-there y-there = (
     (λ lt. elim (cases_lt (place xs x) (place xs y)) [
@@ -124,15 +115,6 @@ module _ (key : ℕ → ℕ) (xs : List ℕ) (up : ascends key xs ≡ true) wher
       | inr more ↦ let le = falls x y x-there y-there more in absurd (omega (arith, lt, le))
     ]),
     rises x y x-there y-there,
-  )
-
-  le-is : (x y : ℕ) → IsIn x xs → IsIn y xs → (key x ≤ key y) ↔ (place xs x ≤ place xs y)
-  le-is x y x-there y-there = (
-    (λ le. elim (cases_lt (place xs y) (place xs x)) [
-      | inl less ↦ let lt = rises y x y-there x-there less in absurd (omega (arith, le, lt))
-      | inr more ↦ more
-    ]),
-    falls y x y-there x-there,
   )
 
 -- ---- keys
@@ -145,20 +127,6 @@ module _ (b : Board) (all : (x : ℕ) → x < length (pairs_of b.ranks) → IsIn
     | inr other ↦ rw other ((λ lt. lt), (λ lt. lt))
   ]
 
-  pub key_le : (tie_key b x ≤ tie_key b y) ↔ (position_or_len (λ z. z == x) b.ties ≤ position_or_len (λ z. z == y) b.ties)
-  unfolding tie_key
-  key_le = elim (cases_Bool (is_ranked b.ranks b.ties)) [
-    | inl told ↦ rw told (le-is (rank_key b.ranks) b.ties (and_parts _ _ told).1 x y (all x x-lt) (all y y-lt))
-    | inr other ↦ rw other ((λ le. le), (λ le. le))
-  ]
-
-  pub key_same : tie_key b x ≡ tie_key b y → position_or_len (λ z. z == x) b.ties ≡ position_or_len (λ z. z == y) b.ties
-  unfolding tie_key
-  key_same = elim (cases_Bool (is_ranked b.ranks b.ties)) [
-    | inl told ↦ rw told (same-key (rank_key b.ranks) b.ties (and_parts _ _ told).1 x y (all x x-lt) (all y y-lt))
-    | inr other ↦ rw other (λ same. same)
-  ]
-
 -- the key in an order by rank, and in any other order
 pub ranked_key : (b : Board) (x : ℕ) → is_ranked b.ranks b.ties ≡ true → rank_key b.ranks x ≡ tie_key b x
 unfolding tie_key
@@ -167,3 +135,7 @@ ranked_key b x told = rw told refl
 pub other_key : (b : Board) (x : ℕ) → is_ranked b.ranks b.ties ≡ false → position_or_len (λ z. z == x) b.ties ≡ tie_key b x
 unfolding tie_key
 other_key b x told = rw told refl
+
+-- so what is the key of x is less than that of y exactly where x comes first
+pub key_stands : (b : Board) → ((x : ℕ) → x < length (pairs_of b.ranks) → IsIn x b.ties) → (x k : ℕ) → x < length (pairs_of b.ranks) → k ≡ tie_key b x → (y : ℕ) → y < length (pairs_of b.ranks) → (k < tie_key b y) ↔ (position_or_len (λ z. z == x) b.ties < position_or_len (λ z. z == y) b.ties)
+key_stands b all x k x-lt told y y-lt = rw told (key_order b all x y x-lt y-lt)

@@ -1,7 +1,7 @@
 // The board of a market.
 
-ghost use Rattle.std.specs.Prelude.{◌≡◌, ◌<◌, ◌==◌, length, position, Some, All, IfOk};
-ghost use Rattle.std.specs.List.{sum_by};
+ghost use Rattle.std.specs.Prelude.{◌≡◌, ◌↔◌, ℕ, ◌<◌, ◌==◌, length, position, Some, All, IfOk};
+ghost use Rattle.std.specs.List.{position_or_len, sum_by};
 ghost use Rattle.rm_market.specs.Board.{contract_count, contract_of, doctor_of, hospital_of, leaf_of, node_at, owners_of, sets_of};
 ghost use Rattle.rm_market.specs.Market.{listed_of};
 ghost use Rattle.rm_market.specs.Tree.{sets_of_tree};
@@ -124,11 +124,13 @@ impl Board {
         self.places[x as usize]
     }
 
-    /// A number of contract x that is smaller than that of another contract exactly where x comes first in tie order. Where the
-    /// order goes by rank it is found without a table; else it is the place in the order.
+    /// The tie key of contract x, a number that is smaller than that of contract y exactly where x comes before y in tie order. In an
+    /// order by rank it is found without the table of places, if the longest rank list times the number of hospitals is below 2 ^ 32:
+    /// it is then the place in the rank list, times that number, plus the hospital. Else it is the place in the order.
     pub fn tie_key(&self, x: u32) -> u32
         requires { x < contract_count self.now }
-        ensures { result ≡ tie_key self.now x }
+        ensures key { result ≡ tie_key self.now x }
+        ensures order { (y : ℕ) → y < contract_count self.now → (result < tie_key self.now y) ↔ (position_or_len (λ z. z == x) self.now.ties < position_or_len (λ z. z == y) self.now.ties) }
     {
         if self.ranked {
             return self.contracts.rank_key(x);

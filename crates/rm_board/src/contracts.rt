@@ -151,7 +151,7 @@ impl Contracts {
         self.start(h as usize) + place
     }
 
-    // The place of contract x in its hospital's rank list, and then its hospital, as one number.
+    // The key by rank of contract x: its place in its hospital's rank list, times the number of hospitals, plus its hospital.
     pub(crate) fn rank_key(&self, x: u32) -> u32
         requires contract { x < length (pairs_of self.now) }
         requires fits { fold max 0 (map length self.now) * length self.now < 2 ^ 32 }

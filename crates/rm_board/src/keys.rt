@@ -9,7 +9,7 @@ use crate::contracts::Contracts;
 use crate::orders::longest_rank;
 use crate::ties::TieRule;
 
-// Whether no key by rank is a large number.
+// Whether the longest rank list times the number of hospitals is below 2 ^ 32, so that each key by rank is.
 fn keys_fit(contracts: &Contracts) -> bool
     ensures { result ≡ nat_lt (fold max 0 (map length contracts.now) * length contracts.now) (2 ^ 32) }
 {
@@ -31,7 +31,7 @@ fn ascends(contracts: &Contracts, order: &[u32]) -> bool
     true
 }
 
-// Whether the tie order of a rule goes by place in the rank list and then by hospital, and no key by rank is a large number.
+// Whether the tie order of a rule goes by place in the rank list and then by hospital, and keys by rank are small enough.
 pub fn is_ranked(contracts: &Contracts, order: &[u32], rule: TieRule<'_>) -> bool
     requires order { IsTieOrder contracts.now order.now }
     requires rule { order.now ≡ order_of contracts.now rule }

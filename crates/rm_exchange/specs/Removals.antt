@@ -32,7 +32,7 @@ pub record AreRounds (width : ℕ) (entries : List (Option Removal)) : Type 0 wh
   pub twice : length entries ≡ 2 * width
   pub rounds : (j : ℕ) → 0 < j → j < width → get_or entries j None ≡ cheapest (get_or entries (2 * j) None) (get_or entries (2 * j + 1) None)
 
--- so, and the cheapest of all is this one: the first entry, or none where there are no rivals
+-- rounds as above, and the cheapest of all is kept: entry 1, or none where there are no rivals
 pub record IsTournament (width : ℕ) (entries : List (Option Removal)) (best : Option Removal) : Type 0 where
   pub entries_are : AreRounds width entries
   pub first : best ≡ get_or entries 1 None

@@ -1,6 +1,6 @@
 // What an offer may change: its addition, and the best swap for it.
 
-ghost use Rattle.std.specs.Prelude.{◌≡◌, ◌<◌, ◌-ℤ◌, ◌≤ℤ◌, ◌^◌, pos, ℕ, List, IfSome, IsTrue, IsFalse};
+ghost use Rattle.std.specs.Prelude.{◌≡◌, ◌<◌, ◌-ℤ◌, ◌≤ℤ◌, pos, ℕ, List, IfSome, IsTrue, IsFalse};
 ghost use Rattle.rm_market.specs.Board.{contract_count, is_feasible};
 ghost use Rattle.rm_exchange.specs.Holding.{held_in, IsAllKept};
 ghost use Rattle.rm_exchange.specs.Prospects.{greater_swap, IsRated, AreProspects, IsDecided};

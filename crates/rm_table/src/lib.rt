@@ -21,7 +21,7 @@ use std::marker::Model;
 pub enum TableFault {
     /// This row, counted from 0, is the first that has a cell which isn't UTF-8.
     BadText(u64),
-    /// Memory was wanting.
+    /// Memory was wanting, or there are more than 4,294,967,295 cells, or bytes in all cells.
     NoMemory,
 }
 

@@ -88,3 +88,22 @@ fn finds_bad_text(rt: HostRuntime) {
     assert!(rt; bad_row(alloc, b"a\n , \nb,,\xc3\n\xff\n") == Some(1));
     assert!(rt; bad_row(alloc, b"a,\xc3\xa9\n").is_none());
 }
+
+// A table of 10,000 rows of seven cells, each of one byte: more cells, and more bytes, than two bytes count.
+fn large_table(alloc: Global) -> Option<Table> {
+    let mut bytes = Vec::new(alloc);
+    for _ in 0..10_000 {
+        bytes.extend_from_slice(b"a,b,c,d,e,f,g\n").ok()?;
+    }
+    Table::read(alloc, &bytes).ok()
+}
+
+#[test]
+fn reads_a_large_table(rt: HostRuntime) {
+    let Some(table) = large_table(rt.alloc()) else {
+        assert!(rt; false, "the table is read");
+        return;
+    };
+    assert!(rt; table.rows() == 10_000);
+    assert!(rt; has_cells(&table, 9_999, &["a", "b", "c", "d", "e", "f", "g"]));
+}

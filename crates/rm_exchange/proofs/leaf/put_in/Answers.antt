@@ -23,4 +23,4 @@ returns-clause-last c =
     p
 
 pub returns-clause-tie : goal.returns-clause-tie
-returns-clause-tie c = c.tie_key-leaf.ensures
+returns-clause-tie c = c.tie_key-leaf.ensures.key
