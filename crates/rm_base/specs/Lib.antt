@@ -1,7 +1,6 @@
 pub mod Checks
 pub mod Codes
-pub mod KeptName
 pub mod Lists
-pub mod Names
+pub mod Numbers
 pub mod Reading
 pub mod Text

@@ -1,5 +1,7 @@
 //! The numbers of files and refusals, and the limits. Each stands here alone: definitions and readers take it from here.
 
+ghost use Rattle.rm_base.specs.Numbers.{AreAsWritten};
+
 // ---- files
 
 /// The file `hospitals.csv`.
@@ -195,3 +197,8 @@ pub const RUNS_LIMIT: u64 = 7;
 
 /// The number of the limit on the nodes that contain one hospital.
 pub const DEPTH_LIMIT: u64 = 8;
+
+/// Each number above is the one that stands beside its name in `specs/Numbers.antt`.
+pub fn numbers_are_as_written()
+    ensures { AreAsWritten }
+{}

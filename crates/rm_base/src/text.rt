@@ -2,7 +2,7 @@
 
 ghost use Rattle.std.specs.Prelude.{◌≡◌};
 ghost use Rattle.std.specs.List.{list_all};
-ghost use Rattle.rm_base.specs.Names.{is_name, is_printed};
+ghost use Rattle.rm_base.specs.Text.{is_name, is_printed};
 
 use crate::codes::MOST_NAME_BYTES;
 

@@ -6,8 +6,7 @@ pub mod ListedOrders
 pub mod Places
 pub mod RuleOrders
 pub mod BoardNodes
-pub mod Starts
-pub mod Filling
+pub mod OwnContracts
 pub mod Firsts
 pub mod TieKeys
 pub mod RankKeys

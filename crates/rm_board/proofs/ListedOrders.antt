@@ -14,7 +14,7 @@ use Rattle.rm_sets.proofs.Members.{not_in_nil, IsIn-append_cases}
 use Rattle.rm_sets.proofs.Once.{distinct_append, distinct_none, distinct_one}
 use Rattle.std.proofs.lemmas.Map.Steps.{length-le_from_distinct_below}
 use Rattle.rm_base.specs.Checks.{first_of, checks_of}
-use Rattle.rm_base.specs.declared.ListedPair.{ListedPair}
+use Rattle.rm_market.specs.declared.ListedPair.{ListedPair}
 use Rattle.rm_market.specs.Board.{pairs_of, hospital_of_number, doctor_of_number}
 use Rattle.rm_market.specs.Ties.{listed_order, listed_fault, missing, contract_of_pair, is_named_by, is_at_hospital_of, is_ranked_below, last_at_hospital_of, element_checks}
 use Rattle.rm_market.specs.declared.BoardFault.{BoardFault}

@@ -13,9 +13,8 @@ use Rattle.rm_sets.proofs.Once.{length-below, get_or-below}
 use Rattle.rm_sets.proofs.Sets.{below-all_below}
 use Rattle.rm_market.specs.Board.{pairs_from, pairs_of, number_of, owners_of_ranks}
 use Rattle.rm_board.specs.ByDoctor.{AreByDoctor, IsFirstWithin, contracts_of_doctor}
-use Rattle.rm_board.proofs.Filling.{starts-rise, starts-within, no-contracts}
+use Rattle.rm_lists.proofs.Grouped.{grouped-at, no-places}
 use Rattle.rm_board.specs.Numbers.{AreContracts, AreRuns, rank_lists}
-use Rattle.rm_board.specs.declared.doctors.ByDoctor.{ByDoctor}
 use Rattle.rm_board.specs.declared.hospitals.ByHospital.{ByHospital}
 
 -- the contracts of one rank list
@@ -230,11 +229,8 @@ module _ (ranks : List (List ℕ)) (h : ℕ) (b : ByHospital) (done : AreNumbere
         ]);
       }
 
-  pub numbered-few : sum_by length ranks < 4_000_000_000 → length b.doctors.items < 4_000_000_000
-  numbered-few few = omega (arith, count-is, pairs-front ranks h, few-contracts ranks few)
-
-  pub numbered-all : (new : ByHospital) (by_doctor : ByDoctor) → new.doctors.items ≡ b.doctors.items → new.starts.items ≡ b.starts.items → AreRuns ranks new.runs.items →
-      sum_by length ranks < 4_000_000_000 → length ranks < 2 ^ 32 → length ranks ≡ h → AreByDoctor new.doctors.items by_doctor.starts.items by_doctor.contracts.items → AreContracts ranks new by_doctor
+  pub numbered-all : (new : ByHospital) (by_doctor : List (List ℕ)) → new.doctors.items ≡ b.doctors.items → new.starts.items ≡ b.starts.items → AreRuns ranks new.runs.items →
+      sum_by length ranks < 4_000_000_000 → length ranks < 2 ^ 32 → length ranks ≡ h → AreByDoctor new.doctors.items by_doctor → AreContracts ranks new by_doctor
   numbered-all new by_doctor doctors starts runs few few-hospitals end index =
       let all : take h ranks ≡ ranks = take_all h ranks (omega arith) in
       record {
@@ -248,7 +244,7 @@ module _ (ranks : List (List ℕ)) (h : ℕ) (b : ByHospital) (done : AreNumbere
       }
 
 -- the spans of the hospitals give the rank lists
-pub lists-are : (ranks : List (List ℕ)) (b : ByHospital) (by_doctor : ByDoctor) → AreContracts ranks b by_doctor → rank_lists b ≡ ranks
+pub lists-are : (ranks : List (List ℕ)) (b : ByHospital) (by_doctor : List (List ℕ)) → AreContracts ranks b by_doctor → rank_lists b ≡ ranks
 lists-are ranks b by_doctor are =
     let starts = b.starts.items in
     let lists = λ (h : ℕ). slice_range b.doctors.items (get_or starts h 0) (get_or starts (h + 1) 0) in
@@ -262,7 +258,7 @@ lists-are ranks b by_doctor are =
 
 -- ---- what is kept answers
 
-module _ (ranks : List (List ℕ)) (b : ByHospital) (by_doctor : ByDoctor) (are : AreContracts ranks b by_doctor) where
+module _ (ranks : List (List ℕ)) (b : ByHospital) (by_doctor : List (List ℕ)) (are : AreContracts ranks b by_doctor) where
   count-are : length b.doctors.items ≡ length (pairs_of ranks)
   count-are = ap length are.doctor ∙ length-map {B = ℕ} (pairs_of ranks) (λ p. p.0)
 
@@ -276,18 +272,11 @@ module _ (ranks : List (List ℕ)) (b : ByHospital) (by_doctor : ByDoctor) (are 
   pub rank-read : (h start end : ℕ) → h < length ranks → start ≡ length (pairs_of (take h ranks)) → end ≡ length (pairs_of (take (h + 1) ranks)) → slice_range b.doctors.items start end ≡ get_or ranks h []
   rank-read h start end lt start-is end-is = ap (λ (ds : List ℕ). slice_range ds start end) are.doctor ∙ rank-is ranks h start end lt start-is end-is
 
-  pub own-forward : (d start end : ℕ) → d + 1 < length by_doctor.starts.items → start ≡ get_or by_doctor.starts.items d 0 → end ≡ get_or by_doctor.starts.items (d + 1) 0 → start ≤ end
-  own-forward d start end lt start-is end-is = omega (arith, start-is, end-is, starts-rise b.doctors.items by_doctor.starts.items are.own.begin d (d + 1) (omega arith) lt)
+  pub own-read : (d : ℕ) → d < length by_doctor → get_or by_doctor d [] ≡ contracts_of_doctor (owners_of_ranks ranks) d
+  own-read d lt = rw (← are.doctor) (ap (λ (ls : List (List ℕ)). get_or ls d []) are.own.own ∙ grouped-at (length by_doctor) b.doctors.items d lt)
 
-  pub own-inside : (d end : ℕ) → d < length by_doctor.starts.items → end ≡ get_or by_doctor.starts.items d 0 → end ≤ length by_doctor.contracts.items
-  own-inside d end lt end-is = omega (arith, end-is, starts-within b.doctors.items by_doctor.starts.items are.own.begin d lt, are.own.long)
-
-  pub own-read : (d start end : ℕ) → d + 1 < length by_doctor.starts.items → start ≡ get_or by_doctor.starts.items d 0 → end ≡ get_or by_doctor.starts.items (d + 1) 0 →
-      slice_range by_doctor.contracts.items start end ≡ contracts_of_doctor (owners_of_ranks ranks) d
-  own-read d start end lt start-is end-is = rw (start-is, end-is, ← are.doctor) (are.own.own d lt)
-
-  pub none-own : (d : ℕ) → length by_doctor.starts.items ≤ d + 1 → [] ≡ contracts_of_doctor (owners_of_ranks ranks) d
-  none-own d past = rw (← are.doctor) (sym (no-contracts b.doctors.items by_doctor.starts.items are.own.begin d past))
+  pub none-own : (d : ℕ) → length by_doctor ≤ d → [] ≡ contracts_of_doctor (owners_of_ranks ranks) d
+  none-own d past = rw (← are.doctor) (sym (no-places (length by_doctor) b.doctors.items d are.own.known past))
 
 pub rank-fits : (ranks : List (List ℕ)) (h : ℕ) → h < length ranks → length (pairs_of ranks) < 4_000_000_000 → length (get_or ranks h []) < 4_000_000_000
 rank-fits ranks h lt few =

@@ -148,10 +148,3 @@ pub rank-ranked : (ranks : List (List ℕ)) (order : List ℕ) (rule : TieRule) 
 rank-ranked ranks order rule fits ordered of =
     let by : order ≡ by_rank ranks = rw of at ordered in
     rw by (sym (and_from _ (ascends (rank_key ranks) (by_rank ranks)) fits (rank-ascends ranks)))
-
--- the place in the order, where it is known
-pub place-told : {X : Type 0} (p : X → Bool) (xs : List X) (k : ℕ) → position p xs ≡ Some k → k ≡ position_or_len p xs
-place-told p xs k e = told (nat_lt (position_or_len p xs) (length xs)) e where
-  told : (b : Bool) → cond b (Some (position_or_len p xs)) None ≡ Some k → k ≡ position_or_len p xs
-  told true e = cc
-  told false e = absurd (cc)

@@ -1,7 +1,7 @@
 -- The order of each rule is a tie order.
 use Rattle.std.proofs.Common.{◌≡◌, List, ℕ, Ok, Err, Result, Vec, Bor, refl}
 use Rattle.std.specs.declared.alloc.Global.{Global}
-use Rattle.rm_base.specs.declared.ListedPair.{ListedPair}
+use Rattle.rm_market.specs.declared.ListedPair.{ListedPair}
 use Rattle.rm_market.specs.Ties.{by_hospital, by_rank}
 use Rattle.rm_market.specs.declared.BoardFault.{BoardFault}
 use Rattle.rm_market.specs.declared.BoardFault.TheVariants.{Unknown, Repeated, AgainstRank, Missing, NoMemory}

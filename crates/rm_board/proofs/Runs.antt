@@ -11,7 +11,6 @@ use Rattle.std.proofs.lemmas.List.Sorted.{IsPartitionedBy-leb, IsNonDecreasingBy
 use Rattle.std.proofs.Math.Nat.{div-mul-le_self, lt-div-mul-add}
 use Rattle.rm_market.specs.Board.{pairs_from, pairs_of, hospital_of_number}
 use Rattle.rm_board.specs.Numbers.{AreContracts, AreRuns}
-use Rattle.rm_board.specs.declared.doctors.ByDoctor.{ByDoctor}
 use Rattle.rm_board.specs.declared.hospitals.ByHospital.{ByHospital}
 use Rattle.rm_board.specs.declared.hospitals.TheConstants.{RUN}
 use Rattle.rm_board.proofs.Numbering.{own, pairs-append, pairs-more, pairs-front, length-own, hospitals-own}
@@ -123,7 +122,7 @@ module _ (ranks : List (List ℕ)) where
 
 -- ---- the hospital of contract x, between those of its run and the next
 
-module _ (ranks : List (List ℕ)) (b : ByHospital) (by_doctor : ByDoctor) (are : AreContracts ranks b by_doctor) (x : ℕ) (lt : x < length (pairs_of ranks)) where
+module _ (ranks : List (List ℕ)) (b : ByHospital) (by_doctor : List (List ℕ)) (are : AreContracts ranks b by_doctor) (x : ℕ) (lt : x < length (pairs_of ranks)) where
   abbrev starts : List ℕ
   starts = b.starts.items
 

@@ -8,6 +8,7 @@ use Rattle.std.proofs.lemmas.List.Folds.{list_all-append}
 use Rattle.std.proofs.lemmas.List.Sums.{fails_before_first, passes_at_first}
 use Rattle.rm_sets.specs.Sets.{IsIn}
 use Rattle.rm_sets.proofs.Members.{IsIn-get_or, place_from_IsIn}
+use Rattle.rm_sets.proofs.Places.{placed}
 use Rattle.rm_sets.proofs.Sets.{IsIn-here, IsIn-later}
 use Rattle.rm_market.specs.Board.{Board, pairs_of}
 use Rattle.rm_board.specs.TieKeys.{rank_key, ascends, is_ranked, tie_key}
@@ -78,19 +79,6 @@ module _ (key : ℕ → ℕ) where
 
 abbrev place : List ℕ → ℕ → ℕ
 place xs x = position_or_len (λ z. z == x) xs
-
-placed : (xs : List ℕ) (x : ℕ) → IsIn x xs → (place xs x < length xs) × (get_or xs (place xs x) 0 ≡ x)
-placed xs x there =
-    let at = place_from_IsIn xs x 0 there in
-    let lt : place xs x < length xs = elim (cases_lt (place xs x) (length xs)) [
-      | inl less ↦ less
-      | inr past ↦
-          let miss = fails_before_first (λ z. z == x) xs at.0 0 (omega (arith, at.1, past)) in
-          let same = at.2 in
-          absurd (grind (arith, nat_tests, miss, same))
-    ] in
-    let hit = passes_at_first (λ z. z == x) xs 0 lt in
-    (lt, grind (arith, nat_tests, hit))
 
 -- where keys ascend, an earlier place has the smaller key
 module _ (key : ℕ → ℕ) (xs : List ℕ) (up : ascends key xs ≡ true) where

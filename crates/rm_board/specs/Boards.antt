@@ -30,6 +30,7 @@ pub record IsBoardKept (ranks : List (List ℕ)) (tree : TreeOf) (steps : List (
 
 -- the board with ties by the rule, or the first fault of the rule
 abbrev pub BuildsBoard : List (List ℕ) → TreeOf → List (List ℤ) → TieRule → Result Board BoardFault → Type 0
-BuildsBoard ranks tree steps rule (Ok board) = (fault_of ranks rule ≡ None) × (board ≡ board_of ranks tree steps (order_of ranks rule)) × IsTieOrder ranks board.ties
+BuildsBoard ranks tree steps rule (Ok board) = (fault_of ranks rule ≡ None) × (board ≡ board_of ranks tree steps (order_of ranks rule))
+    × IsTieOrder ranks board.ties
 BuildsBoard ranks tree steps rule (Err fault.NoMemory) = Unit {0}
 BuildsBoard ranks tree steps rule (Err e) = fault_of ranks rule ≡ Some e

@@ -3,7 +3,7 @@ use Rattle.std.specs.Prelude.{◌≡◌, ◌==◌, ℕ, zero, suc, ◌+◌, ◌<
 use Rattle.std.specs.declared.alloc.Global.{Global}
 use Rattle.std.specs.List.{IsDistinct, list_any}
 use Rattle.rm_sets.specs.Sets.{has, IsIn}
-use Rattle.rm_base.specs.declared.ListedPair.{ListedPair}
+use Rattle.rm_market.specs.declared.ListedPair.{ListedPair}
 use Rattle.rm_market.specs.Board.{pairs_of, hospital_of_number}
 use Rattle.rm_market.specs.Ties.{listed_fault, listed_order, contract_of_pair, is_named_by, is_ranked_below, last_at_hospital_of}
 use Rattle.rm_market.specs.declared.BoardFault.{BoardFault}
@@ -37,7 +37,8 @@ pub record IsListing (ranks : List (List ℕ)) (before : List ListedPair) (order
   pub in_order : (x : ℕ) → x < length (pairs_of ranks) → has x order ≡ nat_lt 0 (get_or named x 0)
   pub place : (x : ℕ) → x < length (pairs_of ranks) → position (is_named_by ranks x) before ≡ place_of_number (get_or named x 0)
   pub latest : (x : ℕ) → x < length (pairs_of ranks) → last_at_hospital_of ranks x before ≡ number_if_any (get_or last (hospital_of_number ranks x) 0)
-  pub below : (x : ℕ) → x < length (pairs_of ranks) → list_any (is_ranked_below ranks x) before ≡ nat_lt (x + 1) (get_or greatest (hospital_of_number ranks x) 0)
+  pub below : (x : ℕ) → x < length (pairs_of ranks) → list_any (is_ranked_below ranks x) before
+      ≡ nat_lt (x + 1) (get_or greatest (hospital_of_number ranks x) 0)
   pub some : (h : ℕ) → get_or last h 0 ≡ 0 → get_or greatest h 0 ≡ 0
 
 -- an element names this contract, or has this first fault
@@ -48,7 +49,8 @@ ReadsElement first contract (Err e) = first ≡ Some e
 
 -- all elements name contracts and none has a fault, or this is the first fault
 abbrev pub ReadsElements : Option BoardFault → List (List ℕ) → List ListedPair → Result Listing BoardFault → Type 0
-ReadsElements first ranks pairs (Ok l) = (first ≡ None) × IsListing ranks pairs l.order.items l.named.items l.last.items l.greatest.items × IsWide ranks l.named.items l.last.items l.greatest.items
+ReadsElements first ranks pairs (Ok l) = (first ≡ None) × IsListing ranks pairs l.order.items l.named.items l.last.items l.greatest.items
+    × IsWide ranks l.named.items l.last.items l.greatest.items
 ReadsElements first ranks pairs (Err fault.NoMemory) = Unit {0}
 ReadsElements first ranks pairs (Err e) = first ≡ Some e
 

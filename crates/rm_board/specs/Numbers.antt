@@ -3,7 +3,6 @@ use Rattle.std.specs.Prelude.{◌≡◌, ℕ, ◌+◌, ◌-◌, ◌*◌, ◌<◌
 use Rattle.rm_sets.specs.Sets.{below}
 use Rattle.rm_market.specs.Board.{pairs_of, owners_of_ranks}
 use Rattle.rm_board.specs.ByDoctor.{AreByDoctor}
-use Rattle.rm_board.specs.declared.doctors.ByDoctor.{ByDoctor}
 use Rattle.rm_board.specs.declared.hospitals.ByHospital.{ByHospital}
 use Rattle.rm_board.specs.declared.hospitals.TheConstants.{RUN}
 
@@ -18,14 +17,14 @@ pub record AreRuns (ranks : List (List ℕ)) (runs : List ℕ) : Type 0 where
 
 -- of each contract its doctor; of each hospital, and after the last one, how many contracts stand before its own; of runs of
 -- contracts their first hospitals; and the contracts by doctor
-pub record AreContracts (ranks : List (List ℕ)) (by_hospital : ByHospital) (by_doctor : ByDoctor) : Type 0 where
+pub record AreContracts (ranks : List (List ℕ)) (by_hospital : ByHospital) (by_doctor : List (List ℕ)) : Type 0 where
   pub few : length (pairs_of ranks) < 4_000_000_000
   pub few_hospitals : length ranks < 2 ^ 32
   pub doctor : by_hospital.doctors.items ≡ owners_of_ranks ranks
   pub as_many : length by_hospital.starts.items ≡ length ranks + 1
   pub start : (h : ℕ) → h ≤ length ranks → get_or by_hospital.starts.items h 0 ≡ length (pairs_of (take h ranks))
   pub runs : AreRuns ranks by_hospital.runs.items
-  pub own : AreByDoctor by_hospital.doctors.items by_doctor.starts.items by_doctor.contracts.items
+  pub own : AreByDoctor by_hospital.doctors.items by_doctor
 
 -- the contract at a place of a hospital's rank list
 abbrev pub number_at : List (List ℕ) → ℕ → ℕ → ℕ

@@ -130,7 +130,8 @@ impl Board {
     pub fn tie_key(&self, x: u32) -> u32
         requires { x < contract_count self.now }
         ensures key { result ≡ tie_key self.now x }
-        ensures order { (y : ℕ) → y < contract_count self.now → (result < tie_key self.now y) ↔ (position_or_len (λ z. z == x) self.now.ties < position_or_len (λ z. z == y) self.now.ties) }
+        ensures order { (y : ℕ) → y < contract_count self.now → (result < tie_key self.now y)
+            ↔ (position_or_len (λ z. z == x) self.now.ties < position_or_len (λ z. z == y) self.now.ties) }
     {
         if self.ranked {
             return self.contracts.rank_key(x);

@@ -7,8 +7,9 @@ ghost use Rattle.rm_board.specs.ByDoctor.{contracts_of_doctor};
 ghost use Rattle.rm_board.specs.Numbers.{number_at};
 ghost use Rattle.rm_board.specs.TieKeys.{rank_key};
 
-use crate::doctors::{ByDoctor, first_within};
+use crate::doctors::{by_doctor, first_within};
 use crate::hospitals::{ByHospital, RUN};
+use rm_lists::Lists as AnyLists;
 use rm_ranks::Lists;
 use std::alloc::{AllocError, Global};
 use std::marker::Model;
@@ -21,7 +22,7 @@ pub type NoMemory = AllocError;
 #[derive(Drop)]
 pub struct Contracts {
     by_hospital: ByHospital,
-    by_doctor: ByDoctor,
+    by_doctor: AnyLists<u32>,
 }
 
 impl Model for Contracts {
@@ -72,7 +73,7 @@ impl Contracts {
             by_hospital.add(h, ranks.list(h))?;
         }
         by_hospital.runs.push(ranks.len())?;
-        let by_doctor = ByDoctor::build(alloc, &by_hospital.doctors)?;
+        let by_doctor = by_doctor(alloc, &by_hospital.doctors)?;
         Ok(Contracts {
             by_hospital,
             by_doctor,
@@ -166,13 +167,10 @@ impl Contracts {
     fn of_doctor(&self, d: u32) -> &[u32]
         ensures { result.now ≡ contracts_of_doctor (owners_of_ranks self.now) d }
     {
-        let d = d as usize;
-        if d + 1 >= self.by_doctor.starts.len() {
+        if d >= self.by_doctor.len() {
             return &[];
         }
-        let start = self.by_doctor.starts[d];
-        let end = self.by_doctor.starts[d + 1];
-        between(&self.by_doctor.contracts, start as usize, end as usize)
+        self.by_doctor.list(d)
     }
 
     /// The contract of doctor d and hospital h; None exactly where h doesn't rank d.

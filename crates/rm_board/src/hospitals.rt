@@ -46,7 +46,8 @@ impl ByHospital {
         requires runs { length self.old.runs.items ≡ div_ceil (length self.old.doctors.items) RUN }
         ensures doctors { OnOk result (self.new.doctors.items ≡ self.old.doctors.items ++ rank.now) }
         ensures starts { OnOk result (self.new.starts.items ≡ self.old.starts.items ++ (length self.old.doctors.items + length rank.now) ∷ []) }
-        ensures runs { OnOk result (self.new.runs.items ≡ self.old.runs.items ++ replicate (div_ceil (length self.old.doctors.items + length rank.now) RUN - length self.old.runs.items) h) }
+        ensures runs { OnOk result (self.new.runs.items
+            ≡ self.old.runs.items ++ replicate (div_ceil (length self.old.doctors.items + length rank.now) RUN - length self.old.runs.items) h) }
     {
         self.doctors.extend_from_slice(rank)?;
         let end = self.doctors.len();

@@ -2,14 +2,13 @@
 
 ghost use Rattle.std.specs.Prelude.{All, replicate, ◌≡◌, ◌+◌, ◌<◌, ◌≤◌, ◌==◌, slice_index, ℕ, List, [], ◌∷◌, ◌++◌, length, set, position, IfSome, IfOk, OnOk};
 ghost use Rattle.rm_base.specs.Checks.{first_of, checks_of};
-ghost use Rattle.rm_base.specs.declared.ListedPair.{ListedPair};
+ghost use Rattle.rm_market.specs.declared.ListedPair.{ListedPair};
 ghost use Rattle.rm_market.specs.Ties.{contract_of_pair, element_checks};
 ghost use Rattle.rm_market.specs.Board.{pairs_of, hospital_of_number};
 ghost use Rattle.rm_board.specs.ListedElements.{IsWide, IsListing, Names, ReadsElement, ReadsElements, ReadsOrder};
 
 use crate::contracts::{Contracts, NoMemory};
-use rm_base::ListedPair;
-use rm_market::BoardFault;
+use rm_market::{BoardFault, ListedPair};
 use std::alloc::Global;
 
 // The contracts named so far, in their order; of each contract the number of the element that names it; and of each hospital
@@ -46,7 +45,9 @@ fn check_element(
     requires pair { Names (length contracts.now) pair.now }
     requires wide { IsWide contracts.now listing.now.named.items listing.now.last.items listing.now.greatest.items }
     requires few { length listing.now.order.items < 4_000_000_000 }
-    ensures element { (before : List ListedPair) → IsListing contracts.now before listing.now.order.items listing.now.named.items listing.now.last.items listing.now.greatest.items → ReadsElement (first_of (element_checks contracts.now before pair.now)) (contract_of_pair contracts.now pair.now) result }
+    ensures element { (before : List ListedPair)
+        → IsListing contracts.now before listing.now.order.items listing.now.named.items listing.now.last.items listing.now.greatest.items
+        → ReadsElement (first_of (element_checks contracts.now before pair.now)) (contract_of_pair contracts.now pair.now) result }
     ensures below { IfOk result (λ x. (x < length (pairs_of contracts.now)) × (x < 4_000_000_000)) }
     ensures new { IfOk result (λ x. slice_index listing.now.named.items x ≡ 0) }
     ensures above { IfOk result (λ x. slice_index listing.now.greatest.items (hospital_of_number contracts.now x) ≤ x + 1) }
@@ -95,7 +96,8 @@ fn first_zero(numbers: &[u32]) -> Option<usize>
 
 // No element.
 fn no_element(alloc: Global, contracts: &Contracts) -> Result<Listing, NoMemory>
-    ensures none { IfOk result (λ l. (l.order.items ≡ []) × (l.named.items ≡ replicate (length (pairs_of contracts.now)) 0) × (l.last.items ≡ replicate (length contracts.now) 0) × (l.greatest.items ≡ replicate (length contracts.now) 0)) }
+    ensures none { IfOk result (λ l. (l.order.items ≡ []) × (l.named.items ≡ replicate (length (pairs_of contracts.now)) 0)
+        × (l.last.items ≡ replicate (length contracts.now) 0) × (l.greatest.items ≡ replicate (length contracts.now) 0)) }
     ensures few { length (pairs_of contracts.now) < 4_000_000_000 }
 {
     let count = contracts.count() as usize;

@@ -7,8 +7,8 @@ ghost use Rattle.rm_board.specs.ListedElements.{Names};
 ghost use Rattle.rm_board.specs.Rules.{AreKnown};
 
 use super::*;
-use rm_base::ListedPair;
 use rm_laminar::Tree;
+use rm_market::ListedPair;
 use rm_ranks::{Lists, ListsBuilder};
 use rm_steps::Steps;
 use std::alloc::{AllocError, Global};

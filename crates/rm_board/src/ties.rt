@@ -7,8 +7,7 @@ ghost use Rattle.rm_board.specs.Rules.{AreKnown, Orders};
 use crate::contracts::{Contracts, NoMemory};
 use crate::listing::listed_order;
 use crate::orders::{by_hospital, by_rank};
-use rm_base::ListedPair;
-use rm_market::BoardFault;
+use rm_market::{BoardFault, ListedPair};
 use std::alloc::Global;
 
 /// The rule by which the contracts of a board stand in tie order: by place in the rank list and then by hospital, by number, or as listed.
@@ -46,7 +45,8 @@ pub fn tie_order(
 pub fn places_in(alloc: Global, contracts: &Contracts, order: &[u32]) -> Result<Vec<u32>, NoMemory>
     requires { IsTieOrder contracts.now order.now }
     ensures wide { IfOk result (λ places. length places.items ≡ length (pairs_of contracts.now)) }
-    ensures places { IfOk result (λ places. (x : ℕ) → x < length (pairs_of contracts.now) → position (λ y. y == x) order.now ≡ Some (slice_index places.items x)) }
+    ensures places { IfOk result (λ places. (x : ℕ) → x < length (pairs_of contracts.now)
+        → position (λ y. y == x) order.now ≡ Some (slice_index places.items x)) }
 {
     let mut places = vec![in alloc; 0; contracts.count() as usize]?;
     for place in 0..order.len() {

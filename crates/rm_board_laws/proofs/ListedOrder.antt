@@ -9,7 +9,7 @@ use Rattle.rm_sets.specs.Sets.{has, IsIn}
 use Rattle.rm_sets.proofs.Members.{place_from_IsIn}
 use Rattle.rm_sets.proofs.Once.{distinct_from_pairs}
 use Rattle.rm_base.specs.Checks.{check, first_of, checks_of}
-use Rattle.rm_base.specs.declared.ListedPair.{ListedPair}
+use Rattle.rm_market.specs.declared.ListedPair.{ListedPair}
 use Rattle.rm_base.proofs.CheckLemmas.{checks-by-place}
 use Rattle.rm_market.specs.declared.BoardFault.TheVariants.{AgainstRank}
 use Rattle.rm_market.specs.Board.{pairs_of, hospital_of_number, stands_before, IsTieOrder}

@@ -2,7 +2,7 @@
 #![tactic(auto)]
 
 ghost use Rattle.std.specs.Prelude.{◌≡◌, ℕ, List, None};
-ghost use Rattle.rm_base.specs.declared.ListedPair.{ListedPair};
+ghost use Rattle.rm_market.specs.declared.ListedPair.{ListedPair};
 ghost use Rattle.rm_market.specs.Board.{IsTieOrder};
 ghost use Rattle.rm_market.specs.Ties.{by_hospital, by_rank, listed_order, listed_fault};
 ghost use Rattle.rm_board_laws.specs.Groups.{AcceptedGroups};

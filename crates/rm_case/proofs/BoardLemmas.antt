@@ -41,11 +41,6 @@ rule_fault r p rule.ByRank e = rw e refl
 rule_fault r p rule.ByHospital e = rw e refl
 rule_fault r p (rule.Listed pairs) e = rw e.0 (rw e.1 refl)
 
-pub rule_known : (r : RosterData) (p : PolicyData) (t : TieRule) (n : ℕ) → SuitsRoster r p → IsRuleOf p t → n ≡ length r.hospitals → AreKnown n t
-rule_known r p rule.ByRank n fits e size = tt
-rule_known r p rule.ByHospital n fits e size = tt
-rule_known r p (rule.Listed pairs) n fits e size = rw (size, e.1) fits.listed
-
 -- ---- the nodes
 
 map_below : {A : Type 0} (f g : ℕ → A) (n : ℕ) → ((h : ℕ) → h < n → f h ≡ g h) → map f (below n) ≡ map g (below n)

@@ -13,11 +13,13 @@ use Rattle.std.specs.Str.{bytes_eq}
 use Rattle.rm_base.specs.Checks.{first_of, checks_of}
 use Rattle.rm_base.specs.Codes.{refuse}
 use Rattle.rm_base.specs.Text.{Text}
-use Rattle.rm_base.specs.Names.{place_of}
+use Rattle.rm_names.specs.Names.{place_of}
+use Rattle.rm_base.specs.Reading.{Reads}
+use Rattle.rm_base.specs.declared.ReadFault.{ReadFault}
 use Rattle.rm_base.specs.declared.Refusal.{Refusal}
 use Rattle.rm_base.specs.declared.codes.TheConstants.{OWN_FILE, NOT_CONTRACT, REPEATED_CONTRACT}
 use Rattle.rm_base.proofs.CheckLemmas.{AreThrough, through-start, through-more, through-stop, through-end}
-use Rattle.rm_base.proofs.FirstPlaces.{AreFirst, first-none, first-more, no-place}
+use Rattle.rm_names.proofs.FirstPlaces.{AreFirst, first-none, first-more, no-place}
 use Rattle.rm_board_laws.proofs.Searches.{position_nowhere, position_bound}
 use Rattle.rm_table.specs.Rows.{Row}
 use Rattle.rm_market.specs.Board.{number_of, contract_of, contract_count, pairs_of, Board}
@@ -28,9 +30,7 @@ use Rattle.rm_sets.proofs.Members.{not_in_nil, not_in_from, place_from_IsIn, IsI
 use Rattle.rm_sets.proofs.Once.{distinct_append, distinct_none, distinct_one}
 use Rattle.rm_case.specs.Case.{CaseData, IsCase, market}
 use Rattle.rm_case.specs.Compiled.{compiled_board}
-use Rattle.rm_case.specs.declared.fault.OwnFault.{OwnFault}
-use Rattle.rm_case.specs.declared.fault.OwnFault.TheVariants as fault
-use Rattle.rm_case.specs.Own.{StopsOwn, ReadsOwn, offers_of, offer_header, offer_table_checks, doctor_in, hospital_in, row_contract, contracts_in, row_checks, row_of_contract, offer_checks}
+use Rattle.rm_case.specs.Own.{offers_of, offer_header, offer_table_checks, doctor_in, hospital_in, row_contract, contracts_in, row_checks, row_of_contract, offer_checks}
 
 -- ---- one row
 
@@ -171,15 +171,10 @@ all-offered c rows i marks contracts r end =
 
 -- ---- answers
 
--- where reading a part stops, the whole stops
-pub stops-own : (part whole : Option Refusal) (e : OwnFault) → ((refusal : Refusal) → part ≡ Some refusal → whole ≡ Some refusal) → StopsOwn part e → StopsOwn whole e
-stops-own part whole (fault.Refused refusal) on h = on refusal h
-stops-own part whole fault.NoMemory on h = tt
-
 -- with its header right, a table is read as its rows are
 pub header-right :
-    (c : CaseData) (rows : List Row) (o : Option ℕ) (r : Result (List ℕ) OwnFault) → o ≡ wrong_cell 0 offer_header (get_or rows 0 []) → o ≡ None →
-    ReadsOwn (first_of (checks_of (offer_checks c) (data_rows rows))) (contracts_in c (data_rows rows)) r → ReadsOwn (first_of (offer_table_checks c rows)) (offers_of c rows) r
+    (c : CaseData) (rows : List Row) (o : Option ℕ) (r : Result (List ℕ) ReadFault) → o ≡ wrong_cell 0 offer_header (get_or rows 0 []) → o ≡ None →
+    Reads (first_of (checks_of (offer_checks c) (data_rows rows))) (contracts_in c (data_rows rows)) r → Reads (first_of (offer_table_checks c rows)) (offers_of c rows) r
 unfolding offers_of
 header-right c rows o r e is h = rw (sym e ∙ is) h
 

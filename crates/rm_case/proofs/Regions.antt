@@ -18,9 +18,8 @@ use Rattle.rm_market.specs.Board.{Board, Node, contract_count, hospital_of, node
 use Rattle.rm_market.specs.Flexible.{seat_steps, Region, Seat}
 use Rattle.rm_market.specs.Market.{Market}
 use Rattle.rm_policy.specs.Policy.{PolicyData, IsPolicy}
-use Rattle.rm_policy.specs.Prefectures.{hospitals_in}
 use Rattle.rm_policy.specs.Top.{is_flexible}
-use Rattle.rm_roster.specs.Roster.{RosterData, IsRoster}
+use Rattle.rm_roster.specs.Roster.{RosterData, IsRoster, hospitals_in}
 use Rattle.rm_sets.specs.Sets.{below, has, IsIn}
 use Rattle.rm_sets.proofs.Members.{All-from_members, IsIn-get_or, place_from_IsIn}
 use Rattle.rm_sets.proofs.Once.{get_or-below, length-below}

@@ -10,7 +10,7 @@ use Rattle.std.proofs.lemmas.Option.{slice_get-get_or}
 use Rattle.std.proofs.lemmas.Slice.Eq.{bytes_eq-Decides}
 use Rattle.toml.specs.Data.{Data}
 use Rattle.rm_base.specs.Checks.{checks_of, first_of}
-use Rattle.rm_base.specs.Names.{place_of, AreDistinct}
+use Rattle.rm_names.specs.Names.{place_of, AreDistinct}
 use Rattle.rm_base.specs.Text.{Text}
 use Rattle.rm_base.specs.declared.codes.TheConstants.{KEY_NOT_FOR_KIND, REPEATED_ENTRY, TARGETS_ABOVE_CAP, UNKNOWN_ENTRY_NAME}
 use Rattle.rm_base.proofs.CheckLemmas.{check-none, mapped-none, none-each, none-parts, passed}

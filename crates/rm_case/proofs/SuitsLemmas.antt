@@ -10,12 +10,12 @@ use Rattle.std.proofs.lemmas.List.Quantifiers.{position-Some}
 use Rattle.std.proofs.lemmas.List.Sums.{fold_push}
 use Rattle.toml.specs.Data.{Data, as_str}
 use Rattle.rm_base.specs.Checks.{check, checks_of, first_of}
-use Rattle.rm_base.specs.Names.{place_of, AreDistinct}
+use Rattle.rm_names.specs.Names.{place_of, AreDistinct}
 use Rattle.rm_base.specs.Text.{Text}
 use Rattle.rm_base.specs.declared.Refusal.{Refusal}
 use Rattle.rm_base.specs.declared.codes.TheConstants.{WRONG_ORDER}
 use Rattle.rm_base.proofs.CheckLemmas.{check-none, mapped-none, none-each, none-parts, passed}
-use Rattle.rm_base.proofs.NameLemmas.{distinct-more}
+use Rattle.rm_names.proofs.NameLemmas.{distinct-more}
 use Rattle.rm_board.specs.ListedElements.{Names}
 use Rattle.rm_board_laws.proofs.HospitalBoards.{zeros_fall}
 use Rattle.rm_market.specs.Board.{IsFalling}
@@ -25,14 +25,14 @@ use Rattle.rm_policy.specs.Entries.{is_present, elements_at, name_of_entry, numb
 use Rattle.rm_policy.specs.Groups.{group_checks_after, group_name_checks, group_shape_checks, group_element_checks, groups_of, groups_named, hospitals_named, prefectures_named, no_groups, steps_of_group, with_group}
 use Rattle.rm_policy.specs.Hospitals.{found_hospital_checks, hospital_entry_checks, hospital_entry_checks_after, hospital_shape_checks, hospital_steps_of, steps_in, steps_of_hospital, entry_of_hospital as former_of}
 use Rattle.rm_policy.specs.Policy.{PolicyData, ReadsPolicy, listed_pairs, pair_numbered, plain, policy_checks, policy_of}
-use Rattle.rm_policy.specs.Prefectures.{fits, hospitals_in, is_missing, order_checks, order_element_checks, order_in as entry_order, prefecture_checks_after, prefecture_of_entry}
+use Rattle.rm_policy.specs.Prefectures.{fits, is_missing, order_checks, order_element_checks, order_in as entry_order, prefecture_checks_after, prefecture_of_entry}
 use Rattle.rm_policy.specs.Steps.{cap_in, flat, run_refusal, runs_in, step_checks}
 use Rattle.rm_policy.specs.Top.{group_entries, hospital_entries, kind_in, prefecture_entries, top_checks}
 use Rattle.rm_policy.specs.Values.{pair, pairs, texts}
 use Rattle.rm_policy.specs.declared.Kind.{Kind}
 use Rattle.rm_policy.specs.declared.keys.Key.TheVariants as key
 use Rattle.rm_policy.proofs.GroupSets.{groups-are-sets}
-use Rattle.rm_roster.specs.Roster.{RosterData, IsRoster}
+use Rattle.rm_roster.specs.Roster.{RosterData, IsRoster, hospitals_in}
 use Rattle.rm_sets.specs.Sets.{below, has, IsIn}
 use Rattle.rm_sets.proofs.Members.{not_in_nil, IsIn-all_below, IsIn-append_cases}
 use Rattle.rm_sets.proofs.Once.{get_or-below, length-below, distinct_append, distinct_of_set, distinct_none, distinct_one}

@@ -19,7 +19,7 @@ use Rattle.rm_sets.proofs.Once.{get_or-below, length-below, distinct_first, dist
 use Rattle.rm_sets.proofs.Sets.{below-all_below, has-append, not_both}
 use Rattle.rm_case.specs.Compiled.{flexible_steps, order_of_prefecture, region_of, seat_of, steps_in_region}
 use Rattle.rm_case.specs.Suits.{SuitsRoster}
-use Rattle.rm_case.specs.NodeSteps.{hospital_turn, orders_of, place_from_one, seats_region, turn_in, turn_steps, AreSome, IsTurn}
+use Rattle.rm_case.specs.NodeSteps.{hospital_turn, place_from_one, seats_region, turn_in, turn_steps, AreSome, IsTurn}
 use Rattle.rm_case.specs.declared.turns.Turn.{Turn}
 
 -- ---- orders
@@ -45,14 +45,6 @@ has_turn r p h fits lq lt =
 
 pub some_in_order : (r : RosterData) (p : PolicyData) (q : ℕ) → SuitsRoster r p → q < length r.prefectures → AreSome r (order_of_prefecture r p q)
 some_in_order r p q fits lt = record { once = (fits.orders q lt).once; known = λ h i. (in_order r p q h fits lt i).0 }
-
-pub orders_long : (r : RosterData) (p : PolicyData) → length (orders_of r p) ≡ length r.prefectures
-orders_long r p = length-map (below (length r.prefectures)) (order_of_prefecture r p) ∙ length-below (length r.prefectures)
-
-pub orders_at : (r : RosterData) (p : PolicyData) (q : ℕ) → q < length r.prefectures → get_or (orders_of r p) q [] ≡ order_of_prefecture r p q
-orders_at r p q lt =
-    let n = length r.prefectures in
-    get_or-map (order_of_prefecture r p) (below n) q 0 [] (omega (arith, lt, length-below n)) ∙ ap (order_of_prefecture r p) (get_or-below n q 0 lt)
 
 -- ---- the place of a hospital in an order
 

@@ -2,15 +2,14 @@
 use Rattle.std.specs.Prelude.{ℕ, List, [], map, length, get_or, take, ◌==◌, sum_by, find, ℤ, Option, None, option_and_then, unwrap_or, if◌then◌else◌}
 use Rattle.std.specs.List.{enumerate_from}
 use Rattle.std.specs.Option.{option_map_or}
-use Rattle.rm_base.specs.Names.{place_of}
+use Rattle.rm_names.specs.Names.{place_of}
 use Rattle.rm_market.specs.Board.{Board}
 use Rattle.rm_market.specs.Tree.{below}
 use Rattle.rm_market.specs.Ties.{by_rank, by_hospital, listed_order}
 use Rattle.rm_market.specs.Flexible.{Region, Seat, seat_steps}
 use Rattle.rm_board_laws.specs.HospitalBoards.{hospital_board, group_nodes}
-use Rattle.rm_roster.specs.Roster.{RosterData}
+use Rattle.rm_roster.specs.Roster.{RosterData, hospitals_in}
 use Rattle.rm_policy.specs.Policy.{PolicyData}
-use Rattle.rm_policy.specs.Prefectures.{hospitals_in}
 use Rattle.rm_policy.specs.Steps.{flat}
 use Rattle.rm_policy.specs.Top.{is_flexible}
 use Rattle.rm_policy.specs.declared.Ties.{Ties}

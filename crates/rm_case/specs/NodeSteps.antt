@@ -15,16 +15,6 @@ use Rattle.rm_case.specs.declared.turns.Turn.{Turn}
 abbrev pub node_steps : RosterData → PolicyData → List (List ℤ)
 node_steps r p = map (compiled_steps r p) (below (length r.hospitals)) ++ p.groups.steps
 
--- the hospitals of each prefecture in the order of their turns
-abbrev pub orders_of : RosterData → PolicyData → List (List ℕ)
-orders_of r p = map (order_of_prefecture r p) (below (length r.prefectures))
-
--- the order of an entry in the place of that of its prefecture
-abbrev pub with_order : Option (List ℕ) → Option ℕ → List (List ℕ) → List (List ℕ)
-with_order None q orders = orders
-with_order (Some order) None orders = orders
-with_order (Some order) (Some q) orders = set orders q order
-
 -- the hospitals of an order as a region; the worths of its seats don't tell its cap
 abbrev pub seats_region : RosterData → List ℕ → Region
 seats_region r order = record { cap = 0; seats = map (seat_of r) order }

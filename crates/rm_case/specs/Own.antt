@@ -1,18 +1,15 @@
 -- A command's own file: the offers that it chooses of, or its first refusal.
-use Rattle.std.specs.Prelude.{◌≡◌, ℕ, ◌+◌, ◌==◌, List, [], ◌∷◌, ◌++◌, length, codes, filter_map, position, Option, Some, None, Result, Ok, Err, is_none, option_map, option_and_then}
-use Rattle.rm_base.specs.Checks.{check, checks_of, first_of}
+use Rattle.std.specs.Prelude.{ℕ, ◌+◌, ◌==◌, List, [], ◌∷◌, length, codes, filter_map, position, Option, is_none, option_map, option_and_then}
+use Rattle.rm_base.specs.Checks.{check, checks_of}
 use Rattle.rm_base.specs.Codes.{refuse}
-use Rattle.rm_base.specs.Names.{place_of}
+use Rattle.rm_names.specs.Names.{place_of}
 use Rattle.rm_base.specs.Text.{Text}
 use Rattle.rm_base.specs.declared.Refusal.{Refusal}
 use Rattle.rm_base.specs.declared.codes.TheConstants.{OWN_FILE, UNKNOWN_DOCTOR, UNKNOWN_HOSPITAL, NOT_CONTRACT, REPEATED_CONTRACT}
 use Rattle.rm_table.specs.Rows.{Row}
 use Rattle.rm_market.specs.Board.{number_of}
 use Rattle.rm_roster.specs.Cells.{field, data_rows, header_check}
-use Rattle.rm_case.specs.Folder.{file_checks, rows_in}
-use Rattle.rm_case.specs.Case.{CaseData, or_refused}
-use Rattle.rm_case.specs.declared.fault.OwnFault.{OwnFault}
-use Rattle.rm_case.specs.declared.fault.OwnFault.TheVariants as fault
+use Rattle.rm_case.specs.Case.{CaseData}
 
 -- the doctor, and the hospital, that a text names
 abbrev pub doctor_in : CaseData → Text → Option ℕ
@@ -60,27 +57,3 @@ offer_table_checks c rows = header_check OWN_FILE offer_header rows ∷ checks_o
 -- the offered contracts, in the order of the file
 unfoldable pub offers_of : CaseData → List Row → List ℕ
 offers_of c rows = contracts_in c (data_rows rows)
-
--- those of a file of offers
-abbrev pub offers_in : CaseData → Option Text → List ℕ
-offers_in c file = offers_of c (rows_in file)
-
--- the first refusal of a file of offers
-unfoldable pub offers_refusal : CaseData → Option Text → Option Refusal
-offers_refusal c file = first_of (file_checks OWN_FILE file ++ offer_table_checks c (rows_in file))
-
--- the offers of a file, or its first refusal
-abbrev pub own_of : CaseData → Option Text → Result (List ℕ) Refusal
-own_of c file = or_refused (offers_refusal c file) (offers_in c file)
-
--- ---- what reading the rows of a command's own file answers
-
--- reading stops at the first refusal; memory may be wanting at any time
-abbrev pub StopsOwn : Option Refusal → OwnFault → Type 0
-StopsOwn first (fault.Refused refusal) = first ≡ Some refusal
-StopsOwn first fault.NoMemory = Unit {0}
-
--- what passes its checks, as data, or their first refusal
-abbrev pub ReadsOwn : {D : Type 0} → Option Refusal → D → Result D OwnFault → Type 0
-ReadsOwn first all (Ok told) = (first ≡ None) × (told ≡ all)
-ReadsOwn first all (Err e) = StopsOwn first e

@@ -1,6 +1,7 @@
 -- What solving a case answers: the places that its one optimal set of contracts gives.
 use Rattle.std.specs.Prelude.{◌≡◌, ℕ, ◌<◌, List, [], map, length, get_or, Option, option_map, IsTrue}
 use Rattle.rm_sets.specs.Sets.{below}
+use Rattle.rm_market.specs.Best.{IsBest, values_of}
 use Rattle.rm_market.specs.Board.{Board, hospital_of, is_feasible, owners_of}
 use Rattle.rm_market.specs.Laws.{IsListOf}
 use Rattle.rm_market.specs.Market.{Best, IsPlacementOf, places_of}
@@ -28,6 +29,10 @@ pub record AreListed (c : CaseData) (listed : List (List ℕ)) : Type 0 where
 -- per doctor, the hospital of his contract in S, or none
 abbrev pub places_on : Board → Wishes → List ℕ → List (Option ℕ)
 places_on b w S = map (λ d. option_map (hospital_of b) (at w d S)) (below (length w.listed))
+
+-- these are the places of the one optimal set of a board's contracts for these wishes
+abbrev pub ArePlacesOf : Board → Wishes → List (Option ℕ) → Type 0
+ArePlacesOf b w places = (S : List ℕ) × IsOnlyOptimal (IsBest (values_of b)) w S × (places ≡ places_on b w S)
 
 -- these are the places of the one optimal set for these listed contracts
 abbrev pub IsSolvedWith : CaseData → List (List ℕ) → List (Option ℕ) → Type 0

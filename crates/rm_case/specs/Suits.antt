@@ -1,18 +1,18 @@
 -- What is needed of a policy for a roster, so that the two make a board.
 use Rattle.std.specs.List.{IsDistinct}
 use Rattle.std.specs.Prelude.{◌≡◌, ◌==◌, ℕ, ◌<◌, ◌≤◌, true, List, [], length, take, get_or, Some, None, IfSome, All}
-use Rattle.rm_base.specs.Names.{AreDistinct}
+use Rattle.rm_names.specs.Names.{AreDistinct}
 use Rattle.rm_board.specs.ListedElements.{Names}
 use Rattle.rm_board.specs.declared.ties.TieRule.{TieRule}
 use Rattle.rm_board.specs.declared.ties.TieRule.TheVariants as rule
 use Rattle.rm_market.specs.Board.{IsFalling}
 use Rattle.rm_sets.specs.Sets.{has, IsSetBelow}
 use Rattle.rm_policy.specs.Policy.{PolicyData}
-use Rattle.rm_policy.specs.Prefectures.{hospitals_in, targets_of}
+use Rattle.rm_policy.specs.Prefectures.{targets_of}
 use Rattle.rm_policy.specs.Steps.{flat}
 use Rattle.rm_policy.specs.Top.{is_flexible}
 use Rattle.rm_policy.specs.declared.Ties.TheVariants as ties
-use Rattle.rm_roster.specs.Roster.{RosterData}
+use Rattle.rm_roster.specs.Roster.{RosterData, hospitals_in}
 use Rattle.rm_case.specs.Compiled.{cap_of_prefecture, entry_of_prefecture, order_of_prefecture}
 
 -- an order of the hospitals of prefecture q, each once

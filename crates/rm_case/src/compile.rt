@@ -10,11 +10,11 @@ ghost use Rattle.rm_case.specs.Faults.{tree_read_fault, ties_read_fault};
 ghost use Rattle.rm_case.specs.Suits.{SuitsRoster, IsRuleOf};
 
 use crate::node_steps::node_steps;
+use rm_base::ReadFault;
 use rm_base::codes::{
     CROSSING_GROUPS, DEPTH_LIMIT, GROUP_EMPTY, LISTED_AGAINST_RANKS, LISTED_MISSING,
     LISTED_NO_CONTRACT, LISTED_REPEATED, POLICY_FILE, TOO_MANY_ITEMS,
 };
-use rm_base::{ReadFault, Refusal};
 use rm_board::{Board, TieRule};
 use rm_laminar::Tree;
 use rm_market::{BoardFault, TreeFault};
@@ -26,12 +26,7 @@ use std::alloc::Global;
 fn refused(code: u8, a: u64, b: u64) -> ReadFault
     ensures { result ≡ ReadFault.Refused (refuse code POLICY_FILE a b) }
 {
-    ReadFault::Refused(Refusal {
-        code,
-        file: POLICY_FILE,
-        a,
-        b,
-    })
+    ReadFault::refused(code, POLICY_FILE, a, b)
 }
 
 // Why groups make no tree. Groups are items from 1.

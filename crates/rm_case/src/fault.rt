@@ -1,6 +1,6 @@
 // Why a folder, or a command's own file, gives nothing.
 
-use rm_base::Refusal;
+use rm_base::{ReadFault, Refusal};
 use thiserror::Error;
 
 /// Why no case was loaded: the first refusal of the folder's files, a shelf that failed at the file of this number, or want of
@@ -16,13 +16,7 @@ pub enum LoadFault {
 }
 
 /// Why a command's own file gives nothing: its first refusal, or want of memory.
-#[derive(Clone, Copy, Debug, PartialEq, Eq, Error)]
-pub enum OwnFault {
-    #[error("refused")]
-    Refused(Refusal),
-    #[error("no memory")]
-    NoMemory,
-}
+pub type OwnFault = ReadFault;
 
 #[cfg(test)]
 mod tests {
@@ -37,16 +31,12 @@ mod tests {
             a: 0,
             b: 0,
         };
-        let refused = format!(in rt.alloc();
-            "{} {}",
-            LoadFault::Refused(refusal),
-            OwnFault::Refused(refusal)
-        )?;
-        assert_eq!(rt; refused.as_str(), "refused refused");
+        let refused = format!(in rt.alloc(); "{}", LoadFault::Refused(refusal))?;
+        assert_eq!(rt; refused.as_str(), "refused");
         let failed = format!(in rt.alloc(); "{}", LoadFault::Read(1))?;
         assert_eq!(rt; failed.as_str(), "read fault");
-        let wanting = format!(in rt.alloc(); "{} {}", LoadFault::NoMemory, OwnFault::NoMemory)?;
-        assert_eq!(rt; wanting.as_str(), "no memory no memory");
+        let wanting = format!(in rt.alloc(); "{}", LoadFault::NoMemory)?;
+        assert_eq!(rt; wanting.as_str(), "no memory");
         Ok(())
     }
 }

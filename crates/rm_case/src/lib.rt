@@ -8,8 +8,8 @@ mod folder;
 mod load;
 mod node_steps;
 mod offers;
-mod orders;
 mod own_file;
+mod places;
 mod solve;
 mod table_file;
 mod turns;
@@ -18,6 +18,7 @@ pub use case::{Case, NodeName};
 pub use fault::{LoadFault, OwnFault};
 pub use offers::Offers;
 pub use own_file::fetch_own;
+pub use places::Places;
 
 #[cfg(test)]
 mod tests;

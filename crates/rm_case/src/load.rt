@@ -8,16 +8,16 @@ ghost use Rattle.rm_base.specs.declared.codes.TheConstants.{MOST_BYTES};
 ghost use Rattle.rm_outside.specs.Outside.{Tells};
 ghost use Rattle.rm_roster.specs.Roster.{IsRoster};
 ghost use Rattle.rm_case.specs.Folder.{Folder, folder_of, folder_roster};
-ghost use Rattle.rm_case.specs.Case.{case_of, folder_refusal, policy_file_checks, policy_in, table_checks};
+ghost use Rattle.rm_case.specs.Case.{case_of, folder_refusal, table_checks};
 ghost use Rattle.rm_case.specs.Suits.{SuitsRoster};
 ghost use Rattle.rm_case.specs.Fetching.{TellsFolder, TellsTables};
 ghost use Rattle.rm_case.specs.Loading.{LoadFails, Loads};
-ghost use Rattle.rm_case.specs.Parts.{ReadsFiles};
+ghost use Rattle.rm_case.specs.Parts.{ReadsFiles, ReadsPolicyFile};
 
 use crate::case::Case;
 use crate::fault::LoadFault;
 use crate::folder::{FetchFailure, Fetches, fetch_folder};
-use crate::table_file::{read_table, refuse};
+use crate::table_file::read_table;
 use rm_base::ReadFault;
 use rm_base::codes::{DOCTORS_FILE, FILE_TOO_LONG, HOSPITALS_FILE, POLICY_FILE, RANKS_FILE};
 use rm_outside::{Fetched, Shelf};
@@ -63,12 +63,12 @@ fn read_roster(
 // The policy for a roster that a file gives, the plain one where the file is missing, or the file's first refusal.
 fn read_policy(alloc: Global, fetched: Fetched, roster: &Roster) -> Result<Policy, ReadFault>
     requires { IsRoster roster.now }
-    ensures reads { (told : Option Text) → Tells told MOST_BYTES fetched → Reads (first_of (policy_file_checks roster.now told)) (policy_in roster.now told) result }
+    ensures reads { (told : Option Text) → Tells told MOST_BYTES fetched → ReadsPolicyFile roster.now told result }
     ensures fits { IfOk result (SuitsRoster roster.now) }
 {
     match fetched {
         Fetched::Absent => Ok(Policy::plain(alloc)),
-        Fetched::Long => Err(refuse(FILE_TOO_LONG, POLICY_FILE, 0)),
+        Fetched::Long => Err(ReadFault::refused(FILE_TOO_LONG, POLICY_FILE, 0, 0)),
         Fetched::Bytes(bytes) => match Policy::read(alloc, &bytes, roster) {
             Ok(policy) => Ok(policy),
             Err(fault) => Err(fault),

@@ -5,13 +5,15 @@ ghost use Rattle.rm_sets.specs.Sets.{IsSetBelow};
 ghost use Rattle.rm_market.specs.Best.{IsBest, values_of};
 ghost use Rattle.rm_market.specs.Board.{contract_count, hospital_of, owners_of};
 ghost use Rattle.rm_market.specs.Laws.{AreWishes};
-ghost use Rattle.rm_market.specs.Stable.{at, IsOnlyOptimal};
+ghost use Rattle.rm_market.specs.Stable.{at};
+ghost use Rattle.rm_market_laws.specs.Results.{PlacesSameIn};
 ghost use Rattle.rm_rounds.specs.Desk.{wishes};
-ghost use Rattle.rm_case.specs.Case.{IsCase};
-ghost use Rattle.rm_case.specs.Solving.{AreListed, IsSolved, IsSolvedWith, places_on};
+ghost use Rattle.rm_case.specs.Case.{IsCase, market};
+ghost use Rattle.rm_case.specs.Solving.{AreListed, ArePlacesOf, IsSolved, IsSolvedWith, places_on};
 
 use crate::case::Case;
-use rm_base::{NoMemory, Places};
+use crate::places::Places;
+use rm_base::NoMemory;
 use rm_board::Board;
 use rm_choice::Holder;
 use rm_exchange::FastHolder;
@@ -22,9 +24,11 @@ use std::alloc::Global;
 impl Case {
     /// The placement of the case: of all stable sets of contracts the one that is best for every doctor. It keeps every
     /// node's bound (Kojima, Tamura and Yokoo 2018). There is one place for each doctor, in the order of `doctors.csv`: his
-    /// hospital, by its row of `hospitals.csv`, counted from 0, or none. `NoMemory` comes for want of memory alone.
+    /// hospital, by its row of `hospitals.csv`, counted from 0, or none. All stable sets place the same doctors (Roth 1986).
+    /// `NoMemory` is want of memory.
     pub fn solve(&self, alloc: Global) -> Result<Places, NoMemory>
         ensures solved { IfOk result (λ places. IsSolved self.now places) }
+        ensures same { PlacesSameIn (market self.now) }
         ensures case { IsCase self.now }
     {
         self.solve_with(alloc, self.listed())
@@ -32,7 +36,7 @@ impl Case {
 
     /// The same for other listed contracts: `listed` has a list for each doctor, in the order of `doctors.csv`, of distinct
     /// contracts of his own, best first. A contract is its number on the board, counted from 0. The places are told as by
-    /// `solve`, and `NoMemory` comes for want of memory alone.
+    /// `solve`, and `NoMemory` is want of memory.
     pub fn solve_with(&self, alloc: Global, listed: &Lists) -> Result<Places, NoMemory>
         requires { AreListed self.now listed.now }
         ensures { IfOk result (λ places. IsSolvedWith self.now listed.now places) }
@@ -44,7 +48,7 @@ impl Case {
 }
 
 // The places that the doctors have once each was offered to a holder of the best subset, and none can offer any more.
-pub(crate) fn place_with<H: Holder + Drop>(
+fn place_with<H: Holder + Drop>(
     alloc: Global,
     board: &Board,
     listed: &Lists,
@@ -54,7 +58,7 @@ pub(crate) fn place_with<H: Holder + Drop>(
     requires best { (X : List ℕ) → IsSetBelow (contract_count board.now) X → IsBest (values_of board.now) X (H.chosen holder X) }
     requires empty { H.held holder ≡ [] }
     requires wishes { AreWishes (contract_count board.now) (wishes (owners_of board.now) listed.now) }
-    ensures { IfOk result (λ places. (S : List ℕ) × IsOnlyOptimal (IsBest (values_of board.now)) (wishes (owners_of board.now) listed.now) S × (places ≡ places_on board.now (wishes (owners_of board.now) listed.now) S)) }
+    ensures { IfOk result (ArePlacesOf board.now (wishes (owners_of board.now) listed.now)) }
 {
     let mut desk = Desk::open(alloc, listed, board.owners(), holder)?;
     desk.close_all();

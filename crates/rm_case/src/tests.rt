@@ -1,10 +1,5 @@
-// Cases of folders in memory: the turns at a desk, and the placements that both holders give.
+// The case of a folder in memory: its public calls, and the turns at a desk.
 
-mod agreement;
-mod drawing;
-mod draws;
+mod calls;
 mod folders;
-mod markets;
-mod policies;
-mod texts;
 mod turns;

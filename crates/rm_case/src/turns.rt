@@ -1,15 +1,15 @@
 // The turns of hospitals in the orders of their prefectures, and the steps that make them take these turns.
 
-ghost use Rattle.std.specs.Prelude.{◌≡◌, ◌≤◌, ◌++◌, ℕ, map, length, get_or, IfOk, None, if◌then◌else◌};
+ghost use Rattle.std.specs.Prelude.{◌≡◌, ◌≤◌, ◌<◌, ◌++◌, ℕ, map, length, get_or, IfOk, None, if◌then◌else◌};
 ghost use Rattle.rm_market.specs.Steps.{steps_of, step_fault};
 ghost use Rattle.rm_market.specs.Tree.{below};
 ghost use Rattle.rm_market.specs.Flexible.{full_worth, greatest_capacity_of};
 ghost use Rattle.rm_roster.specs.Roster.{IsRoster};
 ghost use Rattle.rm_sets.specs.Sets.{has};
+ghost use Rattle.rm_case.specs.Compiled.{order_of_prefecture};
 ghost use Rattle.rm_case.specs.Suits.{SuitsRoster};
 ghost use Rattle.rm_case.specs.NodeSteps.{at_once, hospital_turn, in_turns, seats_region, turn_in, turn_steps, with_steps, AreSome, IsTurn};
 
-use crate::orders::Orders;
 use rm_market::Run;
 use rm_policy::Policy;
 use rm_roster::Roster;
@@ -74,15 +74,29 @@ fn give_turns(roster: &Roster, order: &[u32], turns: &mut Vec<Turn>)
     }
 }
 
+// The hospitals of a prefecture in the order of their turns: that of its entry, or else that of their rows.
+fn order_of<'a>(roster: &'a Roster, policy: &'a Policy, q: u32) -> &'a [u32]
+    requires { q < length roster.now.prefectures }
+    ensures { result.now ≡ order_of_prefecture roster.now policy.now q }
+{
+    let rows = roster.hospitals_in(q);
+    let Some(g) = policy.entry(roster.prefectures().name(q)) else {
+        return rows;
+    };
+    match policy.order(g) {
+        Some(order) => order,
+        None => rows,
+    }
+}
+
 /// The turn of each hospital in the order of its prefecture.
 pub fn turns(alloc: Global, roster: &Roster, policy: &Policy) -> Result<Vec<Turn>, NoMemory>
     requires { SuitsRoster roster.now policy.now }
     ensures { IfOk result (λ v. v.items ≡ map (hospital_turn roster.now policy.now) (below (length roster.now.hospitals))) }
 {
     let mut turns = vec![in alloc; NO_TURN; roster.hospitals().len() as usize]?;
-    let orders = Orders::read(alloc, roster, policy)?;
     for q in 0..roster.prefectures().len() {
-        give_turns(roster, orders.list(q), &mut turns);
+        give_turns(roster, order_of(roster, policy, q), &mut turns);
     }
     Ok(turns)
 }

@@ -14,5 +14,6 @@ pub fn path_independence()
 
 /// What lawful parts choose together, each of its own contracts, is lawful.
 pub fn lawful_parts_join<P: Parts>(parts: &P)
-    ensures { ((k : ℕ) → k < P.parts parts.now → IsPartChoice (P.count parts.now) (P.part parts.now) k (P.chooses parts.now k)) → IsChoice (P.count parts.now) (joined (P.parts parts.now) (P.part parts.now) (P.chooses parts.now)) }
+    ensures { ((k : ℕ) → k < P.parts parts.now → IsPartChoice (P.count parts.now) (P.part parts.now) k (P.chooses parts.now k))
+        → IsChoice (P.count parts.now) (joined (P.parts parts.now) (P.part parts.now) (P.chooses parts.now)) }
 {}

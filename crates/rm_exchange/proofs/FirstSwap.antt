@@ -14,9 +14,6 @@ use Rattle.rm_board_laws.proofs.Searches.{position_nowhere}
 use Rattle.rm_exchange.specs.Swaps.{NoneBefore, IsFirstSwap}
 use Rattle.rm_exchange.proofs.Lists.{some_stays, some_last, rising}
 
-pub none_at_first : (v : Values) (S refused : List ℕ) → IsFirstSwap v S refused [] (length refused) None
-none_at_first v S refused = (λ j z lt i. absurd (not_in_nil z i), refl)
-
 last_one : (x y : ℕ) (Y : List ℕ) (P : ℕ → Type 0) → IsIn x (Y ++ y ∷ []) → (IsIn x Y → P x) → P y → P x
 last_one x y Y P i old new = ⊎_elim old (λ h. ⊎_elim (λ e. subst P (sym e) new) (λ n. absurd (not_in_nil x n)) (IsIn-cases x y [] h)) (IsIn-append_cases Y (y ∷ []) x i)
 

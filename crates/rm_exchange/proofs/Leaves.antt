@@ -34,10 +34,6 @@ use Rattle.rm_exchange.proofs.Homes.{own_test, leaf_test, leaf_test_is, nothing_
 one_true : (t : Bool) → t ≡ true → one t ≡ 1
 one_true t e = ap one e
 
-some_one : (t : Bool) → 0 < one t → t ≡ true
-some_one true lt = refl
-some_one false lt = absurd (omega arith)
-
 counts_member : (p : ℕ → Bool) (y : ℕ) (S : List ℕ) → IsIn y S → p y ≡ true → 0 < count_by p S
 counts_member p y [] i t = absurd (not_in_nil y i)
 counts_member p y (z ∷ S) i t =

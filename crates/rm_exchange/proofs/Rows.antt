@@ -38,33 +38,12 @@ unfull_test b S k count cap e f ne = ne_eqb (count_at b S k) (cap_of (node_at b 
 
 -- ---- the first rows
 
-no_leaf : (b : Board) (S : List ℕ) (x : ℕ) → IsSwapBelow b S 0 x None
-no_leaf b S x = λ y i lt. absurd (omega (arith, lt))
-
 pub first_kept : (b : Board) (S : List ℕ) (x : ℕ) (loss : ℤ) (row : CertRow) → IsIn x S → loss ≡ worth b S -ℤ worth b (without S x) → row ≡ record { contract = x; kept = true; change = Some loss; full = None; swap = None } → IsRowBelow b S 0 x row
 first_kept b S x loss row i e is = record {
   kept = λ _. is ∙ ap (λ c. record { contract = x; kept = true; change = Some c; full = None; swap = None }) e;
   refused = λ out. absurd (not_both (has x S) i out);
   swap = λ out. absurd (not_both (has x S) i out);
 }
-
-pub first_unfit : (b : Board) (S : List ℕ) (x : ℕ) (full : Option ℕ) (row : CertRow) → has x S ≡ false → IsGain b S x None → full ≡ innermost_full b S x →
-    row ≡ record { contract = x; kept = false; change = None; full = full; swap = None } → IsRowBelow b S 0 x row
-first_unfit b S x full row out g e is = record {
-  kept = λ i. absurd (not_both (has x S) i out);
-  refused = λ _. subst (λ r. r ≡ with_swap (refused_row b S x) r.swap) (sym is) (rw (g, e) refl);
-  swap = λ _. subst (λ r. IsSwapBelow b S 0 x r.swap) (sym is) (no_leaf b S x);
-}
-
-pub first_fit : (b : Board) (S : List ℕ) (x : ℕ) (gain : ℤ) (row : CertRow) → has x S ≡ false → IsGain b S x (Some gain) →
-    row ≡ record { contract = x; kept = false; change = Some gain; full = None; swap = None } → IsRowBelow b S 0 x row
-first_fit b S x gain row out g is =
-    let e : gain ≡ worth b (with_one S x) -ℤ worth b S = let same = g.1 in omega (arith, ints, same) in
-    record {
-      kept = λ i. absurd (not_both (has x S) i out);
-      refused = λ _. subst (λ r. r ≡ with_swap (refused_row b S x) r.swap) (sym is) (rw (g.0, e) refl);
-      swap = λ _. subst (λ r. IsSwapBelow b S 0 x r.swap) (sym is) (no_leaf b S x);
-    }
 
 -- ---- one leaf more
 

@@ -37,7 +37,8 @@ IsEntered (Some k) old new place = (place ≡ get_or old k 0) × (new ≡ set ol
 
 -- the rivals at each node are the cheapest held contracts of the nodes just inside, at least of those that pass the test
 abbrev pub AreEntries : Board → List ℕ → (ℕ → Bool) → List ℕ → List (List (Option Removal)) → Type 0
-AreEntries b H test places rivals = (k a : ℕ) → k < length b.nodes → parent (sets_of b) k ≡ Some a → IsTrue (test k) → IsEntry b H k (get_or (get_or rivals a []) (get_or places k 0) None)
+AreEntries b H test places rivals = (k a : ℕ) → k < length b.nodes → parent (sets_of b) k ≡ Some a → IsTrue (test k)
+    → IsEntry b H k (get_or (get_or rivals a []) (get_or places k 0) None)
 
 -- the step that the next contract takes at each node where there are so many, or none where it is full, at least at the nodes that pass
 -- the test; and no step is a large number

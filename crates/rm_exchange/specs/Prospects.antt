@@ -55,7 +55,8 @@ IsRated gain (Some r) swap = swap ≡ Some (record { contract = r.contract; tie 
 -- at node k: it is full; or no node of x is full and each lies within it, and so much does the addition of x change
 abbrev pub IsOwnAddition : Board → List ℕ → ℕ → ℕ → Option ℤ → Type 0
 IsOwnAddition b H x k None = IsFull b H (node_at b k)
-IsOwnAddition b H x k (Some change) = IsTrue (is_feasible b (with_one H x)) × (change ≡ gain b H x) × ((l : ℕ) → l < length b.nodes → IsTrue (test_at b l x) → IsInside (test_at b l) (test_at b k))
+IsOwnAddition b H x k (Some change) = IsTrue (is_feasible b (with_one H x)) × (change ≡ gain b H x)
+    × ((l : ℕ) → l < length b.nodes → IsTrue (test_at b l x) → IsInside (test_at b l) (test_at b k))
 
 -- no node of x inside the node is full; the best swap for a contract of that node; and the addition
 pub record AreProspects (b : Board) (H : List ℕ) (x : ℕ) (p : Prospects) : Type 0 where

@@ -154,7 +154,8 @@ fn better_swap(
     requires low { (pos 0 -ℤ pos (2 ^ 62)) <ℤ loss }
     requires high { loss <ℤ pos (2 ^ 62) }
     ensures out { IfSome result (λ swap. swap.out < contract_count board.now) }
-    ensures swap { (S : List ℕ) (leaf : ℕ) → IsTakenOut board.now S z counts.now loss → IsLastAt board.now S leaf (Some z) → has x S ≡ false → IsSwapBelow board.now S leaf x swap → IsSwapBelow board.now S (leaf + 1) x result }
+    ensures swap { (S : List ℕ) (leaf : ℕ) → IsTakenOut board.now S z counts.now loss → IsLastAt board.now S leaf (Some z) → has x S ≡ false
+        → IsSwapBelow board.now S leaf x swap → IsSwapBelow board.now S (leaf + 1) x result }
 {
     let Some(change) = swap_change(board, counts, x, loss) else {
         return swap;
@@ -180,7 +181,8 @@ fn try_swaps(board: &Board, counts: &mut [u32], offered: &[u32], rows: &mut [Cer
     ensures outs { HasOutsBelow (contract_count board.now) rows.new }
     ensures nodes { length counts.new ≡ length counts.old }
     ensures counts { (S : List ℕ) → IsChosen board.now S → IsIn z S → AreCounts board.now S counts.old → AreCounts board.now S counts.new }
-    ensures rows { (S : List ℕ) (leaf : ℕ) → IsChosen board.now S → AreCounts board.now S counts.old → IsLastAt board.now S leaf (Some z) → AreRowsBelow board.now S leaf offered.now rows.old → AreRowsBelow board.now S (leaf + 1) offered.now rows.new }
+    ensures rows { (S : List ℕ) (leaf : ℕ) → IsChosen board.now S → AreCounts board.now S counts.old → IsLastAt board.now S leaf (Some z)
+        → AreRowsBelow board.now S leaf offered.now rows.old → AreRowsBelow board.now S (leaf + 1) offered.now rows.new }
 {
     let loss = take_out(board, counts, z);
     for i in 0..offered.len() {
@@ -206,7 +208,8 @@ fn try_leaves(
     requires long { length rows.old ≡ length offered.now }
     requires outs { HasOutsBelow (contract_count board.now) rows.old }
     requires nodes { length counts.old ≡ length board.now.nodes }
-    ensures rows { (S : List ℕ) → IsChosen board.now S → AreCounts board.now S counts.old → AreLasts board.now S lasts.now → AreRowsBelow board.now S 0 offered.now rows.old → AreRowsBelow board.now S (length lasts.now) offered.now rows.new }
+    ensures rows { (S : List ℕ) → IsChosen board.now S → AreCounts board.now S counts.old → AreLasts board.now S lasts.now
+        → AreRowsBelow board.now S 0 offered.now rows.old → AreRowsBelow board.now S (length lasts.now) offered.now rows.new }
 {
     for leaf in 0..lasts.len() {
         let Some(z) = lasts[leaf] else {

@@ -51,7 +51,8 @@ impl<'a> FastHolder<'a> {
         ensures held { IfOk result (λ h. ⟦<FastHolder<'a> as Holder>⟧.held h ≡ []) }
         ensures count { IfOk result (λ h. ⟦<FastHolder<'a> as Holder>⟧.count h ≡ contract_count board.now) }
         ensures chosen { IfOk result (λ h. ⟦<FastHolder<'a> as Holder>⟧.chosen h ≡ best_of (values_of board.now)) }
-        ensures best { (X : List ℕ) → IsSetBelow (contract_count board.now) X → IfOk result (λ h. IsBest (values_of board.now) X (⟦<FastHolder<'a> as Holder>⟧.chosen h X)) }
+        ensures best { (X : List ℕ) → IsSetBelow (contract_count board.now) X
+            → IfOk result (λ h. IsBest (values_of board.now) X (⟦<FastHolder<'a> as Holder>⟧.chosen h X)) }
     {
         let at = all_places(alloc, board)?;
         let holding = nothing(alloc, board, &at.widths)?;

@@ -100,7 +100,8 @@ pub(crate) fn put_in(board: &Board, leaf: &mut Leaf, x: u32)
 pub(crate) fn take_greatest(board: &Board, leaf: &mut Leaf)
     requires order { IsHeap nat_cmp (heap_items leaf.old.held) }
     requires known { (y : ℕ) → IsIn y (heap_items leaf.old.held) → y < contract_count board.now }
-    ensures items { (z : ℕ) → IsIn z (heap_items leaf.old.held) → ((y : ℕ) → IsIn y (heap_items leaf.old.held) → y ≤ z) → IsPermutation (heap_items leaf.old.held) (z ∷ heap_items leaf.new.held) }
+    ensures items { (z : ℕ) → IsIn z (heap_items leaf.old.held) → ((y : ℕ) → IsIn y (heap_items leaf.old.held) → y ≤ z)
+        → IsPermutation (heap_items leaf.old.held) (z ∷ heap_items leaf.new.held) }
     ensures order { IsHeap nat_cmp (heap_items leaf.new.held) }
     ensures last { IsGreatestOf (heap_items leaf.new.held) leaf.new.last }
     ensures tie { IsTieOf (tie_key board.now) leaf.new.last leaf.new.tie }
@@ -116,7 +117,8 @@ pub(crate) fn take_greatest(board: &Board, leaf: &mut Leaf)
 // How many contracts each hospital has.
 fn contracts_at(alloc: Global, board: &Board) -> Result<Vec<u32>, NoMemory>
     ensures wide { IfOk result (λ counts. length counts.items ≡ length board.now.ranks) }
-    ensures counts { IfOk result (λ counts. (h : ℕ) → h < length board.now.ranks → get_or counts.items h 0 ≡ count_at board.now (below (contract_count board.now)) h) }
+    ensures counts { IfOk result (λ counts. (h : ℕ) → h < length board.now.ranks
+        → get_or counts.items h 0 ≡ count_at board.now (below (contract_count board.now)) h) }
     ensures leaves { IfOk result (λ counts. (x : ℕ) → x < contract_count board.now → leaf_of board.now x < length board.now.ranks) }
 {
     let hospitals = board.tree().hospitals();
@@ -131,7 +133,8 @@ fn contracts_at(alloc: Global, board: &Board) -> Result<Vec<u32>, NoMemory>
 // hospital, if these are fewer.
 pub(crate) fn empty_leaves(alloc: Global, board: &Board) -> Result<Vec<Leaf>, NoMemory>
     ensures none { IfOk result (λ leaves. AreLeaves board.now [] leaves.items) }
-    ensures room { IfOk result (λ leaves. (h : ℕ) (d : Leaf) → h < length board.now.ranks → heap_capacity (get_or leaves.items h d).held ≡ room_at board.now h) }
+    ensures room { IfOk result (λ leaves. (h : ℕ) (d : Leaf) → h < length board.now.ranks
+        → heap_capacity (get_or leaves.items h d).held ≡ room_at board.now h) }
     ensures leaves { IfOk result (λ leaves. (x : ℕ) → x < contract_count board.now → leaf_of board.now x < length board.now.ranks) }
 {
     let counts = contracts_at(alloc, board)?;

@@ -40,7 +40,8 @@ fn first_removal(board: &Board, counts: &[u32], chosen: &[u32]) -> Option<u32>
 fn is_better_with(board: &Board, counts: &[u32], x: u32) -> bool
     requires contract { x < contract_count board.now }
     requires nodes { length counts.now ≡ length board.now.nodes }
-    ensures { (S : List ℕ) → IsChosen board.now S → has x S ≡ false → AreCounts board.now S counts.now → result ≡ is_better (values_of board.now) (with_one S x) S }
+    ensures { (S : List ℕ) → IsChosen board.now S → has x S ≡ false → AreCounts board.now S counts.now
+        → result ≡ is_better (values_of board.now) (with_one S x) S }
 {
     let Some(gain) = gain(board, counts, x) else {
         return false;
@@ -52,7 +53,8 @@ fn is_better_with(board: &Board, counts: &[u32], x: u32) -> bool
 fn first_addition(board: &Board, counts: &[u32], refused: &[u32]) -> Option<u32>
     requires refused { IsSetBelow (contract_count board.now) refused.now }
     requires nodes { length counts.now ≡ length board.now.nodes }
-    ensures { (X S : List ℕ) → refused.now ≡ minus X S → IsChosen board.now S → AreCounts board.now S counts.now → result ≡ better_with (values_of board.now) X S }
+    ensures { (X S : List ℕ) → refused.now ≡ minus X S → IsChosen board.now S → AreCounts board.now S counts.now
+        → result ≡ better_with (values_of board.now) X S }
 {
     for i in 0..refused.len() {
         let x = refused[i];
@@ -89,7 +91,8 @@ fn first_for(board: &Board, counts: &[u32], refused: &[u32], z: u32, loss: i64) 
     requires low { (pos 0 -ℤ pos (2 ^ 62)) <ℤ loss }
     requires high { loss <ℤ pos (2 ^ 62) }
     ensures within { IfSome result (λ i. i < length refused.now) }
-    ensures first { (S : List ℕ) → IsTakenOut board.now S z counts.now loss → ((x : ℕ) → IsIn x refused.now → has x S ≡ false) → result ≡ position (λ x. is_better (values_of board.now) (swapped S x z) S) refused.now }
+    ensures first { (S : List ℕ) → IsTakenOut board.now S z counts.now loss → ((x : ℕ) → IsIn x refused.now → has x S ≡ false)
+        → result ≡ position (λ x. is_better (values_of board.now) (swapped S x z) S) refused.now }
 {
     for i in 0..refused.len() {
         if is_better_for(board, counts, refused[i], z, loss) {

@@ -54,7 +54,8 @@ pub(crate) fn pick(
 fn clear_all(counts: &mut [u32], regions: &[Region])
     requires { All (AreBelow (length counts.old)) regions.now }
     ensures length { length counts.new ≡ length counts.old }
-    ensures none { (i j : ℕ) → i < length regions.now → j < length (region_at regions.now i).seats → slice_index counts.new (seat_at (region_at regions.now i) j).hospital ≡ 0 }
+    ensures none { (i j : ℕ) → i < length regions.now → j < length (region_at regions.now i).seats
+        → slice_index counts.new (seat_at (region_at regions.now i) j).hospital ≡ 0 }
 {
     for i in 0..regions.len() {
         let region = &regions[i];
@@ -66,7 +67,8 @@ fn clear_all(counts: &mut [u32], regions: &[Region])
 fn take_all(counts: &mut [u32], regions: &[Region])
     requires { All (AreBelow (length counts.old)) regions.now }
     ensures length { length counts.new ≡ length counts.old }
-    ensures kept { (b : MarketBoard) (X : List ℕ) → IsRegions (contract_count b) (hospital_of b) regions.now → IsSetBelow (contract_count b) X → AreCounted b regions.now X counts.old → AreKept b regions.now X counts.new }
+    ensures kept { (b : MarketBoard) (X : List ℕ) → IsRegions (contract_count b) (hospital_of b) regions.now → IsSetBelow (contract_count b) X
+        → AreCounted b regions.now X counts.old → AreKept b regions.now X counts.new }
 {
     for i in 0..regions.len() {
         let region = &regions[i];

@@ -8,9 +8,9 @@ ghost use Rattle.rm_market.specs.Best.{IsChoice};
 ghost use Rattle.rm_market.specs.Board.{contract_count, hospital_of};
 ghost use Rattle.rm_market.specs.Flexible.{flexible, is_seat_of, kept};
 ghost use Rattle.rm_choice.specs.Size.{Fits, IsAsLarge};
-ghost use Rattle.rm_flexible_laws.specs.Region.{IsRegions};
-ghost use Rattle.rm_flexible.specs.Counts.{AreBelow};
-ghost use Rattle.rm_flexible.specs.Places.{AreRegions};
+ghost use Rattle.rm_flexible_laws.specs.Region.{IsRegions, region_at};
+ghost use Rattle.rm_flexible.specs.Counts.{AreBelow, has_hospital};
+ghost use Rattle.rm_flexible.specs.Places.{AreRegions, region_of, found_within};
 
 mod choosing;
 mod offers;
@@ -19,7 +19,7 @@ mod turns;
 
 pub use region::{Region, Seat};
 use rm_board::Board;
-use rm_choice::{Choice, Room};
+use rm_choice::{Choice, Parts, Room};
 
 /// Writes what one region keeps of the applicants to the front of the room's list, ascending, and says how many there are. The
 /// applicants are contracts at the region's hospitals, strictly ascending. Takes no memory.
@@ -72,6 +72,22 @@ impl<'a> Flexible<'a> {
         ensures chosen { ⟦<Flexible<'a> as Choice>⟧.chosen result ≡ flexible board.now regions.now }
     {
         Flexible { board, regions }
+    }
+}
+
+impl<'a> Parts for Flexible<'a> {
+    ghost count = { λ c. contract_count c.board.now };
+
+    ghost parts = { λ c. length c.regions.now };
+
+    ghost part = { λ c x. region_of c.regions.now (hospital_of c.board.now x) };
+
+    ghost chooses = { λ c i. kept c.board.now (region_at c.regions.now i) };
+
+    ghost within = { λ c x lt. found_within (λ r. has_hospital r (hospital_of c.board.now x)) c.regions.now (c.places.all x lt) };
+
+    fn contracts(&self) -> u32 {
+        self.board.contracts()
     }
 }
 

@@ -33,7 +33,8 @@ pub(crate) fn count_offers(board: &Board, offered: &[u32], marks: &mut [u32], co
     ensures marks_length { length marks.new ≡ length marks.old }
     ensures counts_length { length counts.new ≡ length counts.old }
     ensures counts { (h : ℕ) → slice_index counts.new h ≡ slice_index counts.old h + length (at_hospital board.now h offered.now) }
-    ensures marks { (x : ℕ) → IsIn x offered.now → slice_index marks.new x + ranked_above board.now offered.now x ≡ length (at_hospital board.now (hospital_of board.now x) offered.now) }
+    ensures marks { (x : ℕ) → IsIn x offered.now → slice_index marks.new x + ranked_above board.now offered.now x
+        ≡ length (at_hospital board.now (hospital_of board.now x) offered.now) }
 {
     let contracts = board.contracts();
     prove!(offered.len() <= contracts as usize);

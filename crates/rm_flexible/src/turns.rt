@@ -12,7 +12,8 @@ fn fill_targets(region: &Region, counts: &mut [u32]) -> u32
     requires { AreBelow (length counts.old) region.now }
     ensures length { length counts.new ≡ length counts.old }
     ensures others { (h : ℕ) → IsFalse (has_hospital region.now h) → slice_index counts.new h ≡ slice_index counts.old h }
-    ensures taken { (b : MarketBoard) (X : List ℕ) → IsOffered b region.now X → AreLeft b region.now X [] counts.old → IsInRound b region.now X (up_to_targets b region.now X) 0 0 counts.new result }
+    ensures taken { (b : MarketBoard) (X : List ℕ) → IsOffered b region.now X → AreLeft b region.now X [] counts.old
+        → IsInRound b region.now X (up_to_targets b region.now X) 0 0 counts.new result }
 {
     let cap = region.cap();
     let seats = region.seats();
@@ -33,7 +34,8 @@ fn take_round(region: &Region, round: u32, counts: &mut [u32], taken: u32) -> u3
     requires { AreBelow (length counts.old) region.now }
     ensures length { length counts.new ≡ length counts.old }
     ensures others { (h : ℕ) → IsFalse (has_hospital region.now h) → slice_index counts.new h ≡ slice_index counts.old h }
-    ensures taken { (b : MarketBoard) (X K : List ℕ) → IsOffered b region.now X → IsInRound b region.now X K round 0 counts.old taken → IsInRound b region.now X (fold (after_seat b region.now X) K region.now.seats) (round + 1) 0 counts.new result }
+    ensures taken { (b : MarketBoard) (X K : List ℕ) → IsOffered b region.now X → IsInRound b region.now X K round 0 counts.old taken
+        → IsInRound b region.now X (fold (after_seat b region.now X) K region.now.seats) (round + 1) 0 counts.new result }
 {
     let cap = region.cap();
     let seats = region.seats();
@@ -67,7 +69,8 @@ fn take_turns(region: &Region, counts: &mut [u32], targets: u32)
     requires { AreBelow (length counts.old) region.now }
     ensures length { length counts.new ≡ length counts.old }
     ensures others { (h : ℕ) → IsFalse (has_hospital region.now h) → slice_index counts.new h ≡ slice_index counts.old h }
-    ensures kept { (b : MarketBoard) (X : List ℕ) → IsOffered b region.now X → IsInRound b region.now X (up_to_targets b region.now X) 0 0 counts.old targets → AreLeft b region.now X (kept b region.now X) counts.new }
+    ensures kept { (b : MarketBoard) (X : List ℕ) → IsOffered b region.now X → IsInRound b region.now X (up_to_targets b region.now X) 0 0 counts.old targets
+        → AreLeft b region.now X (kept b region.now X) counts.new }
 {
     let mut total = targets;
     for round in 0..greatest_capacity(region) {
@@ -84,7 +87,8 @@ pub(crate) fn take_kept(region: &Region, counts: &mut [u32])
     requires { AreBelow (length counts.old) region.now }
     ensures length { length counts.new ≡ length counts.old }
     ensures others { (h : ℕ) → IsFalse (has_hospital region.now h) → slice_index counts.new h ≡ slice_index counts.old h }
-    ensures kept { (b : MarketBoard) (X : List ℕ) → IsOffered b region.now X → AreLeft b region.now X [] counts.old → AreLeft b region.now X (kept b region.now X) counts.new }
+    ensures kept { (b : MarketBoard) (X : List ℕ) → IsOffered b region.now X → AreLeft b region.now X [] counts.old
+        → AreLeft b region.now X (kept b region.now X) counts.new }
 {
     let targets = fill_targets(region, counts);
     take_turns(region, counts, targets);

@@ -19,6 +19,8 @@ pub record IsCapNode (b : Board) (r : Region) (n : Node) : Type 0 where
 -- node h is that of hospital h, and each other node is one of a region; a region without a node has a cap that bounds nothing
 pub record IsCompiled (b : Board) (regions : List Region) : Type 0 where
   pub hospitals : (h i j : ℕ) → IsPlace regions h i j → (h < length b.nodes) × IsSeatNode b (region_at regions i) j (node_at b h)
-  pub others : (k : ℕ) → k < length b.nodes → ((i : ℕ) × (j : ℕ) × IsPlace regions k i j) ⊎ ((i : ℕ) × (i < length regions) × IsCapNode b (region_at regions i) (node_at b k))
+  pub others : (k : ℕ) → k < length b.nodes → ((i : ℕ) × (j : ℕ) × IsPlace regions k i j)
+      ⊎ ((i : ℕ) × (i < length regions) × IsCapNode b (region_at regions i) (node_at b k))
   pub caps : (i : ℕ) → i < length regions →
-      ((k : ℕ) × (k < length b.nodes) × IsCapNode b (region_at regions i) (node_at b k)) ⊎ ((region_at regions i).cap ≡ sum_by (λ s. s.capacity) (region_at regions i).seats)
+      ((k : ℕ) × (k < length b.nodes) × IsCapNode b (region_at regions i) (node_at b k))
+      ⊎ ((region_at regions i).cap ≡ sum_by (λ s. s.capacity) (region_at regions i).seats)

@@ -18,13 +18,15 @@ pub record IsPicked (b : Board) (regions : List Region) (X S : List ℕ) : Type 
   pub set : IsSet S
   pub within : IsWithin S X
   pub in_caps : (i : ℕ) → i < length regions → region_count b (region_at regions i) S ≤ (region_at regions i).cap
-  pub in_capacities : (i j : ℕ) → i < length regions → j < length (region_at regions i).seats → held_at b S (seat_at (region_at regions i) j) ≤ (seat_at (region_at regions i) j).capacity
+  pub in_capacities : (i j : ℕ) → i < length regions → j < length (region_at regions i).seats
+      → held_at b S (seat_at (region_at regions i) j) ≤ (seat_at (region_at regions i) j).capacity
   pub passed : (x : ℕ) → IsIn x X → ¬ IsIn x S → IsTrue (is_passed_over b regions S x)
 
 -- what one region keeps of its contracts
 abbrev pub KeptIsPicked : Board → List Region → Type 0
 KeptIsPicked b regions =
-    (i : ℕ) (X : List ℕ) → i < length regions → IsSetBelow (contract_count b) X → IsPicked b regions (in_region b (region_at regions i) X) (kept b (region_at regions i) (in_region b (region_at regions i) X))
+    (i : ℕ) (X : List ℕ) → i < length regions → IsSetBelow (contract_count b) X
+    → IsPicked b regions (in_region b (region_at regions i) X) (kept b (region_at regions i) (in_region b (region_at regions i) X))
 
 -- and what all regions keep
 abbrev pub FlexibleIsPicked : Board → List Region → Type 0
@@ -38,7 +40,8 @@ PickedIsOne b regions =
 -- on the board of the regions, what one region keeps of its contracts is their best subset
 abbrev pub KeptIsBest : Board → List Region → Type 0
 KeptIsBest b regions =
-    (i : ℕ) (X : List ℕ) → i < length regions → IsSetBelow (contract_count b) X → IsBest (values_of b) (in_region b (region_at regions i) X) (kept b (region_at regions i) (in_region b (region_at regions i) X))
+    (i : ℕ) (X : List ℕ) → i < length regions → IsSetBelow (contract_count b) X
+    → IsBest (values_of b) (in_region b (region_at regions i) X) (kept b (region_at regions i) (in_region b (region_at regions i) X))
 
 -- and what all regions keep is the best subset of all
 abbrev pub FlexibleIsBest : Board → List Region → Type 0
@@ -51,7 +54,8 @@ BestIsPicked b regions = (X S : List ℕ) → IsSetBelow (contract_count b) X �
 -- a feasible placement is stable exactly where it has the count form
 abbrev pub StableIsCountForm : Board → List Region → Type 0
 StableIsCountForm b regions =
-    (w : Wishes) (S : List ℕ) → length w.owners ≡ contract_count b → IsPlacement w S → IsTrue (is_feasible b S) → IsStable (IsBest (values_of b)) w S ↔ IsTrue (has_count_form b regions w S)
+    (w : Wishes) (S : List ℕ) → length w.owners ≡ contract_count b → IsPlacement w S → IsTrue (is_feasible b S)
+    → IsStable (IsBest (values_of b)) w S ↔ IsTrue (has_count_form b regions w S)
 
 -- the same in a market
 abbrev pub StableInIsCountForm : Market → List Region → Type 0
@@ -102,14 +106,17 @@ OfRegions Holds = (b : Board) (regions : List Region) → IsRegions (contract_co
 -- of the flexible procedure on any board with lawful regions, and all wishes
 abbrev pub OfFlexible : ((List ℕ → List ℕ) → Wishes → Type 0) → Type 0
 OfFlexible Holds =
-    (b : Board) (regions : List Region) (w : Wishes) → IsRegions (contract_count b) (hospital_of b) regions → AreWishes (contract_count b) w → Holds (flexible b regions) w
+    (b : Board) (regions : List Region) (w : Wishes) → IsRegions (contract_count b) (hospital_of b) regions → AreWishes (contract_count b) w
+    → Holds (flexible b regions) w
 
 -- on the board of the regions
 abbrev pub OnBoardsOfRegions : (Board → List Region → Type 0) → Type 0
 OnBoardsOfRegions Holds =
-    (doctors : ℕ) (b : Board) (regions : List Region) → IsBoard doctors b → IsRegions (contract_count b) (hospital_of b) regions → IsCompiled b regions → Holds b regions
+    (doctors : ℕ) (b : Board) (regions : List Region) → IsBoard doctors b → IsRegions (contract_count b) (hospital_of b) regions → IsCompiled b regions
+    → Holds b regions
 
 -- in a market on the board of the regions
 abbrev pub InMarketsOfRegions : (Market → List Region → Type 0) → Type 0
 InMarketsOfRegions Holds =
-    (m : Market) (regions : List Region) → IsMarket m → IsRegions (contract_count m.board) (hospital_of m.board) regions → IsCompiled m.board regions → Holds m regions
+    (m : Market) (regions : List Region) → IsMarket m → IsRegions (contract_count m.board) (hospital_of m.board) regions → IsCompiled m.board regions
+    → Holds m regions

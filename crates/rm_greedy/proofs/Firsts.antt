@@ -16,15 +16,6 @@ use Rattle.rm_greedy.specs.Additions.{IsAddition, IsNoAddition, IsCandidate, Com
 last_cases : (x y : ℕ) (Y : List ℕ) → IsIn x (Y ++ y ∷ []) → IsIn x Y ⊎ (x ≡ y)
 last_cases x y Y i = ⊎_elim (λ h. inl h) (λ h. ⊎_elim (λ e. inr e) (λ z. absurd (not_in_nil x z)) (IsIn-cases x y [] h)) (IsIn-append_cases Y (y ∷ []) x i)
 
-pub taken_none : (b : Board) (S : List ℕ) (x : ℕ) → IsIn x S → IsNoAddition b S x
-taken_none b S x i = λ out _. absurd (out i)
-
-pub unfit_none : (b : Board) (S : List ℕ) (x : ℕ) → IsFalse (is_feasible b (with_one S x)) → IsNoAddition b S x
-unfit_none b S x h = λ _ fits. absurd (not_both (is_feasible b (with_one S x)) fits h)
-
-pub low_none : (b : Board) (S : List ℕ) (x : ℕ) (gain : ℤ) → IsGain b S x (Some gain) → gain <ℤ pos 0 → IsNoAddition b S x
-low_none b S x gain g low = λ _ _. let e = g.1 in omega (arith, ints, e, low)
-
 pub addition_is : (b : Board) (S : List ℕ) (a : Addition) → has a.contract S ≡ false → IsGain b S a.contract (Some a.gain) → pos 0 ≤ℤ a.gain → place b.ties a.contract ≡ a.place → IsAddition b S a
 addition_is b S a out g up tie = record { outside = λ i. not_both (has a.contract S) i out; passes = g.0; change = g.1; rises = up; tie = tie }
 

@@ -24,7 +24,8 @@ fn candidate(board: &Board, counts: &[u32], marks: &[u32], x: u32) -> Option<Add
     requires contract { x < contract_count board.now }
     requires nodes { length counts.now ≡ length board.now.nodes }
     requires marks { x < length marks.now }
-    ensures { (S : List ℕ) → IsTrue (is_feasible board.now S) → AreCounts board.now S counts.now → has x S ≡ (slice_index marks.now x == 1) → IsCandidate board.now S x result }
+    ensures { (S : List ℕ) → IsTrue (is_feasible board.now S) → AreCounts board.now S counts.now → has x S ≡ (slice_index marks.now x == 1)
+        → IsCandidate board.now S x result }
 {
     if marks[x as usize] == 1 {
         return None;
@@ -86,7 +87,8 @@ pub(crate) fn best_addition(
     requires marks { contract_count board.now ≤ length marks.now }
     requires heads { (r : ℕ) → r < length heads.old → slice_index heads.old r < length offered.now }
     ensures heads { (S : List ℕ) → AreMarks offered.now S marks.now → AreHeads board.now offered.now S heads.old → AreHeads board.now offered.now S heads.new }
-    ensures first { (S : List ℕ) → IsTrue (is_feasible board.now S) → AreCounts board.now S counts.now → AreMarks offered.now S marks.now → AreHeads board.now offered.now S heads.old → IsFirstOf board.now S offered.now result }
+    ensures first { (S : List ℕ) → IsTrue (is_feasible board.now S) → AreCounts board.now S counts.now → AreMarks offered.now S marks.now
+        → AreHeads board.now offered.now S heads.old → IsFirstOf board.now S offered.now result }
 {
     let contracts = board.contracts();
     prove!(offered.len() <= contracts as usize);

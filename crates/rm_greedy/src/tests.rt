@@ -85,7 +85,7 @@ fn one_hospital(alloc: Global) -> Result<Board, NoMemory>
 }
 
 // What an offer of x does. None where there is no such contract, or it is held.
-fn offered<H: Holder>(holder: &mut H, x: u32) -> Option<Outcome> {
+fn offered(holder: &mut PlainHolder<'_>, x: u32) -> Option<Outcome> {
     if x >= holder.contracts() || holder.holds(x) {
         return None;
     }

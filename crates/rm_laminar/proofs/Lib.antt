@@ -6,7 +6,6 @@ pub mod Laminar
 pub mod ListOfLists
 pub mod Loops
 pub mod Members
-pub mod PackedLemmas
 pub mod Parents
 pub mod Told
 pub mod Order

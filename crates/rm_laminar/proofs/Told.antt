@@ -144,6 +144,3 @@ kept-firsts hospitals groups chains firsts gs c is =
     let k = kept hospitals groups chains firsts gs c is in
     let good : IsTreeKept (record { hospitals = hospitals; groups = groups }) chains firsts = rw k.0 at k.1 in
     (good.nodes, good.firsts_are)
-
-pub few-nodes : (t : TreeOf) (chains : List (List ℕ)) (firsts : List ℕ) → IsTreeKept t chains firsts → length (sets_of_tree t) ≤ 15000
-few-nodes t chains firsts k = rw (tree-length t.hospitals t.groups) (omega (arith, k.groups.few_hospitals, k.groups.few_groups))

@@ -53,7 +53,8 @@ fn shared_with(
     requires groups { AreHospitalGroups (length chains.now) (chain_lists earlier.now) }
     requires group { IsSetBelow (length chains.now) group.now }
     ensures len { IfOk result (λ v. length v.items ≡ length earlier.now) }
-    ensures counts { IfOk result (λ v. (a : ℕ) → a < length earlier.now → slice_index v.items a ≡ count_by (λ h. has h (get_or (chain_lists earlier.now) a [])) group.now) }
+    ensures counts { IfOk result (λ v. (a : ℕ) → a < length earlier.now
+        → slice_index v.items a ≡ count_by (λ h. has h (get_or (chain_lists earlier.now) a [])) group.now) }
 {
     let mut shared = vec![in alloc; 0; earlier.len()]?;
     count_shared(&mut shared, chains, earlier, group);
@@ -208,7 +209,8 @@ fn insert_group(chains: &mut Lists, earlier: &[Vec<u32>], group: &[u32]) -> Resu
     requires chains { AreChains (length chains.old) (chain_lists earlier.now) chains.old }
     requires groups { AreHospitalGroups (length chains.old) (chain_lists earlier.now) }
     requires group { IsSetBelow (length chains.old) group.now }
-    ensures { OnOk result (AreChanged (put (is_larger (length group.now) (tree_sets (length chains.old) (chain_lists earlier.now))) (length chains.old + length earlier.now)) chains.old chains.new group.now) }
+    ensures { OnOk result (AreChanged (put (is_larger (length group.now) (tree_sets (length chains.old) (chain_lists earlier.now)))
+        (length chains.old + length earlier.now)) chains.old chains.new group.now) }
 {
     let hospitals = chains.len() as u32;
     let node = hospitals + earlier.len() as u32;

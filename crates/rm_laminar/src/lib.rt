@@ -10,9 +10,9 @@ ghost use Rattle.rm_laminar.specs.Tree.{told, IsTreeKept, AreChildren, AreMember
 use crate::chains::chains_of;
 use crate::children::children_of;
 use crate::lists::Lists;
-use crate::packed::PackedLists;
 use crate::walk::members_of;
 use rm_base::codes::{MOST_DEPTH, MOST_GROUPS, MOST_HOSPITALS};
+use rm_lists::Lists as PackedLists;
 pub use rm_market::TreeFault;
 use std::alloc::{AllocError, Global};
 use std::marker::Model;
@@ -20,17 +20,16 @@ use std::marker::Model;
 mod chains;
 mod children;
 mod lists;
-mod packed;
 mod walk;
 
 /// The tree of hospitals and groups: of two nodes one contains the other, or they share no hospital. Node h is the
 /// hospital h alone, and node `hospitals + g` is the group g. Of two equal sets the later declared one is outside.
 #[derive(Drop)]
 pub struct Tree {
-    chains: PackedLists,
+    chains: PackedLists<u32>,
     firsts: Vec<u32>,
-    children: PackedLists,
-    members: PackedLists,
+    children: PackedLists<u32>,
+    members: PackedLists<u32>,
 }
 
 impl Model for Tree {
@@ -42,7 +41,8 @@ impl Model for Tree {
 
     ghost view = { λ t. told (length t.firsts.items) t.chains };
 
-    ghost invariant = { λ t. IsTreeKept (told (length t.firsts.items) t.chains) t.chains t.firsts.items × AreChildren (told (length t.firsts.items) t.chains) t.children × AreMembers (told (length t.firsts.items) t.chains) t.members };
+    ghost invariant = { λ t. IsTreeKept (told (length t.firsts.items) t.chains) t.chains t.firsts.items
+        × AreChildren (told (length t.firsts.items) t.chains) t.children × AreMembers (told (length t.firsts.items) t.chains) t.members };
 }
 
 // The least hospital of each node.
@@ -75,14 +75,14 @@ fn item(chain: &[u32], place: usize) -> Option<u32>
 }
 
 // The greatest length of a chain.
-fn depth_of(chains: &PackedLists) -> u32
+fn depth_of(chains: &PackedLists<u32>) -> u32
     requires few { length chains.now ≤ MOST_HOSPITALS }
     requires shallow { (h : ℕ) → h < length chains.now → length (get_or chains.now h []) ≤ MOST_DEPTH }
     ensures { result ≡ fold max 0 (map (λ h. length (get_or chains.now h [])) (below (length chains.now))) }
 {
     let mut depth = 0;
     for h in 0..chains.len() {
-        depth = depth.max(chains.list(h as u32).len() as u32);
+        depth = depth.max(chains.list(h).len() as u32);
     }
     depth
 }
@@ -101,10 +101,10 @@ fn packed_tree(
     ensures { IfOk result (λ t. t ≡ told (length firsts.items) chains.now) }
 {
     Ok(Tree {
-        chains: PackedLists::packed(alloc, chains)?,
+        chains: chains.packed(alloc)?,
         firsts,
-        children: PackedLists::packed(alloc, children)?,
-        members: PackedLists::packed(alloc, members)?,
+        children: children.packed(alloc)?,
+        members: members.packed(alloc)?,
     })
 }
 
@@ -148,7 +148,7 @@ impl Tree {
     pub fn hospitals(&self) -> u32
         ensures { result ≡ self.now.hospitals }
     {
-        self.chains.len() as u32
+        self.chains.len()
     }
 
     /// The hospitals of a node, each once, in the order of the tree's walk, which visits roots, and the children of a

@@ -2,6 +2,7 @@
 
 ghost use Rattle.std.specs.Prelude.{◌≡◌, ◌+◌, ◌<◌, ◌≤◌, List, [], ◌∷◌, ◌++◌, length, replicate, get_or, set, insert, OnOk, IfOk};
 
+use rm_lists::Lists as PackedLists;
 use std::alloc::{AllocError, Global};
 use std::marker::Model;
 
@@ -65,5 +66,16 @@ impl Lists {
         let list = &mut self.lists[i as usize];
         list.push(x)?;
         Ok(())
+    }
+
+    /// The same lists, in one buffer.
+    pub fn packed(&self, alloc: Global) -> Result<PackedLists<u32>, AllocError>
+        ensures { IfOk result (λ l. l ≡ self.now) }
+    {
+        let mut packed = PackedLists::with_capacity(alloc, 0, 0)?;
+        for i in 0..self.lists.len() {
+            packed.push(&self.lists[i])?;
+        }
+        Ok(packed)
     }
 }

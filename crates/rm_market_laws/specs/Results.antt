@@ -21,7 +21,8 @@ HasPlacement m chosen = (ds : List ℕ) × IsClosed chosen (wishes_of m) (after 
 -- isn't held stands in no stable set; and where it is closed, what is held is the placement
 pub record RunsWellIn (m : Market) (chosen : List ℕ → List ℕ) : Type 0 where
   pub held : (ds : List ℕ) → Best m (offered_so_far (wishes_of m) (after chosen (wishes_of m) ds)) (after chosen (wishes_of m) ds).held
-  pub refused : (ds : List ℕ) (x : ℕ) (T : List ℕ) → IsIn x (offered_so_far (wishes_of m) (after chosen (wishes_of m) ds)) → ¬ IsIn x (after chosen (wishes_of m) ds).held
+  pub refused : (ds : List ℕ) (x : ℕ) (T : List ℕ) → IsIn x (offered_so_far (wishes_of m) (after chosen (wishes_of m) ds))
+      → ¬ IsIn x (after chosen (wishes_of m) ds).held
       → IsStableIn m T → ¬ IsIn x T
   pub closed : (ds : List ℕ) → IsClosed chosen (wishes_of m) (after chosen (wishes_of m) ds) → IsPlacementOf m (after chosen (wishes_of m) ds).held
 

@@ -1,2 +1,3 @@
+pub mod GainLemmas
 pub mod KeptLemmas
 pub mod ReadLemmas

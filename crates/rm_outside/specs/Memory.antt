@@ -30,7 +30,8 @@ pub record ShelfData : Type 0 where
 
 abbrev pub shelf_code : Coded ShelfData
 shelf_code =
-    code_by (Files × (List ℕ × (ℕ × (ℕ × Option Text)))) (coded× files_code (coded× (coded_list coded_ℕ) (coded× coded_ℕ (coded× coded_ℕ (coded_option (coded_list coded_ℕ))))))
+    code_by (Files × (List ℕ × (ℕ × (ℕ × Option Text))))
+    (coded× files_code (coded× (coded_list coded_ℕ) (coded× coded_ℕ (coded× coded_ℕ (coded_option (coded_list coded_ℕ))))))
     (λ s. (s.files, (s.failing, (s.fetches, (s.faults, s.blame)))))
     (λ p. record { files = p.0; failing = p.1.0; fetches = p.1.1.0; faults = p.1.1.1.0; blame = p.1.1.1.1 }) (λ _. refl)
 

@@ -1,6 +1,7 @@
 -- What shelves and sinks tell, and what their calls do to it.
-use Rattle.std.specs.Prelude.{◌≡◌, ◌⊎◌, ℕ, ◌+◌, ◌-◌, ◌<◌, ◌≤◌, ◌^◌, ◌++◌, min, length, take, Option, Some, None, Result, Ok, Err, option_map, IfSome, IfOk}
+use Rattle.std.specs.Prelude.{◌≡◌, ◌≢◌, ◌⊎◌, ℕ, ◌+◌, ◌-◌, ◌<◌, ◌≤◌, ◌^◌, min, length, take, Option, Some, None, Result, Ok, Err, IfSome, IfOk}
 use Rattle.std.specs.FinMap.{get}
+use Rattle.std.specs.Io.KnownBytes.{Appends}
 use Rattle.rm_base.specs.Text.{Text, Files}
 use Rattle.rm_outside.specs.declared.Fetched.{Fetched}
 use Rattle.rm_outside.specs.declared.Fetched.TheVariants.{Bytes, Absent, Long}
@@ -29,16 +30,25 @@ Tells file limit (Bytes v) = (file ≡ Some v.items) × (length v.items ≤ limi
 abbrev pub IsTold : Option Files → Text → ℕ → Result Fetched FetchFault → Type 0
 IsTold files name limit result = IfSome files (λ fs. IfOk result (Tells (get fs name) limit))
 
+-- the fault of a call of the system that failed, by the kind of its error: want of memory has a kind of its own
+abbrev pub IsFaultOf : {Kind : Type 0} → Kind → Kind → FetchFault → Type 0
+IsFaultOf out_of_memory kind fault = (kind ≡ out_of_memory → fault ≡ NoMemory) × (kind ≢ out_of_memory → fault ≡ Failed)
+
 -- the blame after a fetch, where it is told: the name that failed, and else as it was
 abbrev pub blame_after : Text → Result Fetched FetchFault → Option Text → Option Text
 blame_after name (Err Failed) before = Some name
 blame_after name (Err NoMemory) before = before
 blame_after name (Ok answer) before = before
 
--- what was written has this more at its end, where it is told
+-- what was written has this more at its end, where it was told: where it was, it is
 abbrev pub Gains : Option Text → Option Text → Text → Type 0
-Gains before after text = after ≡ option_map (λ written. written ++ text) before
+Gains = Appends
 
 -- the same of some front of it
 abbrev pub GainsPart : Option Text → Option Text → Text → Type 0
 GainsPart before after text = (k : ℕ) × (k ≤ length text) × Gains before after (take k text)
+
+-- a sink over a writer: what the writer tells that it holds, and the faults
+pub record StreamData : Type 0 where
+  pub written : Option Text
+  pub faults : ℕ

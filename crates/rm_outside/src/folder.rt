@@ -1,11 +1,13 @@
 // A shelf over the file system.
 
-ghost use Rattle.std.specs.Prelude.{Some, None, ◌≡◌, IfSome, IfOk};
-ghost use Rattle.rm_outside.specs.Outside.{Tells};
+ghost use Rattle.std.specs.Prelude.{Some, None, Ok, ◌≡◌, ◌≢◌, IfSome, IfOk, IfErr, OnOk, IsOkAnd, IsErrAnd};
+ghost use Rattle.std.specs.IoError.{error_kind};
+ghost use Rattle.rm_outside.specs.Outside.{Tells, IsFaultOf};
+ghost use Rattle.rm_outside.specs.declared.Fetched.TheVariants.{Absent};
 
 use crate::{FetchFault, Fetched, Shelf};
 use std::alloc::Global;
-use std::io::Read;
+use std::io::{ErrorKind, Read};
 use std::marker::Model;
 use std::rt::Files;
 use std::{fs, io};
@@ -53,7 +55,7 @@ impl<'a, R: Files> Shelf for FolderShelf<'a, R> {
     }
 }
 
-// The bytes of a file of the system. Only a file that is missing is absent.
+// What a fetch of this path answers. Which file the system opens by this name is its own affair.
 fn read_file<R: Files>(
     rt: &R,
     alloc: Global,
@@ -62,32 +64,56 @@ fn read_file<R: Files>(
 ) -> Result<Fetched, FetchFault> {
     match fs::open(rt, path) {
         Ok(file) => read_up_to(alloc, file, limit),
-        Err(e) => match e.kind() {
-            io::ErrorKind::NotFound => Ok(Fetched::Absent),
-            io::ErrorKind::OutOfMemory => Err(FetchFault::NoMemory),
-            _ => Err(FetchFault::Failed),
-        },
+        Err(e) => unopened(&e),
     }
 }
 
-// The bytes of a reader, if they are no more than the limit. It reads at most one byte more than the limit.
-fn read_up_to<R: Read + Drop>(alloc: Global, reader: R, limit: u64) -> Result<Fetched, FetchFault>
+// What a fetch answers where the file could not be opened: it is absent only where it was not found.
+fn unopened(error: &io::Error) -> Result<Fetched, FetchFault>
+    ensures absent { error_kind error.now ≡ ErrorKind.NotFound → result ≡ Ok Absent }
+    ensures fault { error_kind error.now ≢ ErrorKind.NotFound → IsErrAnd result (IsFaultOf ErrorKind.OutOfMemory (error_kind error.now)) }
+{
+    if error.kind() == ErrorKind::NotFound {
+        return Ok(Fetched::Absent);
+    }
+    Err(fault_of(error))
+}
+
+// The fault of a call of the system that failed.
+fn fault_of(error: &io::Error) -> FetchFault
+    ensures { IsFaultOf ErrorKind.OutOfMemory (error_kind error.now) result }
+{
+    if error.kind() == ErrorKind::OutOfMemory {
+        return FetchFault::NoMemory;
+    }
+    FetchFault::Failed
+}
+
+/// The bytes of a reader to its end, if they are no more than `limit`. It reads at most one byte more than the limit. `Failed` and
+/// `NoMemory` come only where a read failed.
+pub fn read_up_to<R: Read + Drop>(
+    alloc: Global,
+    reader: R,
+    limit: u64,
+) -> Result<Fetched, FetchFault>
     ensures { IfSome (R.remaining reader) (λ bytes. IfOk result (Tells (Some bytes) limit)) }
 {
-    let most = limit.saturating_add(1);
     let mut bytes = Vec::new(alloc);
-    let mut front = reader.take(most);
-    if let Err(e) = front.read_to_end(&mut bytes) {
-        return match e.kind() {
-            io::ErrorKind::OutOfMemory => Err(FetchFault::NoMemory),
-            _ => Err(FetchFault::Failed),
-        };
+    let mut front = reader.take(limit.saturating_add(1));
+    let read = front.read_to_end(&mut bytes);
+    outcome(read, bytes, limit)
+}
+
+// What a fetch answers after a read that asked for one byte more than the limit: what it gave, or its fault.
+fn outcome(read: io::Result<usize>, bytes: Vec<u8>, limit: u64) -> Result<Fetched, FetchFault>
+    ensures ok { OnOk read (IsOkAnd result (Tells (Some bytes.items) limit)) }
+    ensures fault { IfErr read (λ e. IsErrAnd result (IsFaultOf ErrorKind.OutOfMemory (error_kind e))) }
+{
+    if let Err(e) = &read {
+        return Err(fault_of(e));
     }
-    if (bytes.len() as u64) < most {
-        return Ok(Fetched::Bytes(bytes));
-    }
-    if limit < most {
+    if bytes.len() as u64 > limit {
         return Ok(Fetched::Long);
     }
-    Err(FetchFault::NoMemory)
+    Ok(Fetched::Bytes(bytes))
 }

@@ -106,7 +106,13 @@ impl Model for MemoryShelf {
 
     ghost coded = { shelf_code };
 
-    ghost view = { λ s. record { files = s.files; failing = s.failing.items; fetches = s.fetches; faults = s.faults; blame = option_map string_bytes s.blame } };
+    ghost view = { λ s. record {
+      files = s.files;
+      failing = s.failing.items;
+      fetches = s.fetches;
+      faults = s.faults;
+      blame = option_map string_bytes s.blame;
+    } };
 }
 
 impl MemoryShelf {

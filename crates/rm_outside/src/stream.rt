@@ -1,12 +1,13 @@
 // A sink over a stream of the system.
 
-ghost use Rattle.std.specs.Prelude.{None, ◌≡◌};
+ghost use Rattle.std.specs.Prelude.{◌≡◌, OnOk, OnErr};
+ghost use Rattle.rm_outside.specs.Outside.{Gains, GainsPart};
 
 use crate::{PutFault, Sink};
-use std::io::Write;
+use std::io::{ErrorKind, Write};
 use std::marker::Model;
 
-/// A sink over a writer. It doesn't tell what was written, and counts the writer's faults.
+/// A sink over a writer. What was written is what the writer tells that it holds, and the faults are the puts that failed.
 #[derive(Drop)]
 pub struct StreamSink<W: Write + Drop> {
     writer: W,
@@ -14,32 +15,72 @@ pub struct StreamSink<W: Write + Drop> {
 }
 
 impl<W: Write + Drop> Model for StreamSink<W> {
-    ghost use Rattle.std.specs.Prelude.{ℕ};
+    ghost use Rattle.rm_outside.specs.Outside.{StreamData};
 
-    ghost Value = { ℕ };
+    ghost Value = { StreamData };
 
-    ghost view = { λ s. s.faults };
+    ghost view = { λ s. record { written = W.contents s.writer; faults = s.faults } };
 }
 
 impl<W: Write + Drop> StreamSink<W> {
     /// A sink over a writer, without faults so far.
     pub fn new(writer: W) -> StreamSink<W>
-        ensures { result ≡ 0 }
+        ensures { result ≡ record { written = W.contents writer; faults = 0 } }
     {
         StreamSink { writer, faults: 0 }
     }
 }
 
 impl<W: Write + Drop> Sink for StreamSink<W> {
-    ghost written = { λ _. None };
+    ghost written = { λ s. s.written };
 
-    ghost faults = { λ s. s };
+    ghost faults = { λ s. s.faults };
 
     fn put(&mut self, piece: &[u8]) -> Result<(), PutFault> {
-        if self.writer.write_all(piece).is_err() || self.writer.flush().is_err() {
-            self.faults = self.faults.saturating_add(1);
-            return Err(PutFault::Failed);
+        match send(&mut self.writer, piece) {
+            Ok(()) => Ok(()),
+            Err(fault) => {
+                self.faults = self.faults.saturating_add(1);
+                Err(fault)
+            }
         }
-        Ok(())
     }
+}
+
+// Writes a piece and flushes the writer. A failed flush is a fault too, though the whole piece was written.
+fn send<W: Write>(writer: &mut W, piece: &[u8]) -> Result<(), PutFault>
+    ensures ok { OnOk result (Gains (W.contents writer.old) (W.contents writer.new) piece.now) }
+    ensures part { OnErr result (GainsPart (W.contents writer.old) (W.contents writer.new) piece.now) }
+{
+    write_whole(writer, piece)?;
+    if writer.flush().is_err() {
+        return Err(PutFault::Failed);
+    }
+    Ok(())
+}
+
+// Writes a piece. A write that was interrupted is tried again; any other fault ends it, and then some front of the piece was written.
+fn write_whole<W: Write>(writer: &mut W, piece: &[u8]) -> Result<(), PutFault>
+    ensures ok { OnOk result (Gains (W.contents writer.old) (W.contents writer.new) piece.now) }
+    ensures part { OnErr result (GainsPart (W.contents writer.old) (W.contents writer.new) piece.now) }
+{
+    let mut done = 0;
+    for _ in 0..u64::MAX {
+        if done == piece.len() {
+            return Ok(());
+        }
+        match writer.write(&piece[done..]) {
+            Ok(0) => return Err(PutFault::Failed),
+            Ok(n) => {
+                done += n;
+                continue;
+            }
+            Err(e) => {
+                if e.kind() != ErrorKind::Interrupted {
+                    return Err(PutFault::Failed);
+                }
+            }
+        }
+    }
+    Err(PutFault::Failed)
 }

@@ -1,15 +1,16 @@
 -- The document of a text, and the policy of a document.
-use Rattle.std.proofs.Common.{◌≡◌, ◌∙◌, ◌+◌, ◌≤◌, ℕ, ℤ, Bool, true, false, cond, List, [], ◌∷◌, length, map, fold, Option, Some, None, Ok, Err, option_map, IsUtf8, refl, sym, ap, arith, length-append}
+use Rattle.std.proofs.Common.{◌≡◌, ◌∙◌, ◌+◌, ◌≤◌, ℕ, ℤ, Bool, true, false, cond, List, [], ◌∷◌, length, map, fold, take, Option, Some, None, Ok, Err, option_map, IsUtf8, refl, sym, ap, arith, length-append}
 use Rattle.std.specs.Str.{is_utf8}
-use Rattle.std.proofs.lemmas.List.{length-map}
+use Rattle.std.proofs.lemmas.List.{length-map, take-append-le, take_all}
 use Rattle.std.proofs.lemmas.Str.{IsUtf8-from_is_utf8, is_utf8-from_IsUtf8}
 use Rattle.toml.specs.Data.{Data, Members, table}
 use Rattle.toml.specs.Parse.{parse_document}
 use Rattle.rm_base.specs.Checks.{first_of}
+use Rattle.rm_base.specs.Text.{Text}
 use Rattle.rm_base.specs.declared.Refusal.{Refusal}
 use Rattle.rm_base.proofs.CheckLemmas.{first-none, first-some}
 use Rattle.rm_roster.specs.Roster.{RosterData}
-use Rattle.rm_base.specs.declared.ListedPair.{ListedPair}
+use Rattle.rm_market.specs.declared.ListedPair.{ListedPair}
 use Rattle.rm_policy.specs.Entries.{elements_at, name_of_entry}
 use Rattle.rm_policy.specs.Groups.{GroupsData, PrefecturesData, groups_of, groups_joined, members_of_group, no_groups, prefectures_of, steps_of_group, with_group}
 use Rattle.rm_base.specs.Reading.{Stops}
@@ -99,6 +100,14 @@ groups-groups_joined r ps gs all parts prefectures groups is parts_are prefectur
 
 pub orders-told : (r : RosterData) (ps : List Data) (orders : List (Option (List ℕ))) (prefectures : PrefecturesData) → orders ≡ prefectures.orders → prefectures ≡ prefectures_of r ps → orders ≡ (prefectures_of r ps).orders
 orders-told r ps orders prefectures is prefectures_are = is ∙ ap (λ (p : PrefecturesData). p.orders) prefectures_are
+
+-- the names of the prefecture entries come first
+pub entries-told : (r : RosterData) (ps gs : List Data) (g : GroupsData) (all : List (Option (List ℕ))) (entries : List Text) → g ≡ groups_joined (prefectures_of r ps).groups (groups_of r gs) → entries ≡ map name_of_entry ps → all ≡ (prefectures_of r ps).orders
+    → entries ≡ take (length all) g.names
+entries-told r ps gs g all entries groups told orders =
+    let names = map name_of_entry ps in
+    let count : length all ≡ length names = ap length orders ∙ length-map ps (order_in r) ∙ sym (length-map ps name_of_entry) in
+    rw (told, groups, count) (sym (take-append-le (length names) names (groups_of r gs).names (omega arith) ∙ take_all (length names) names (omega arith)))
 
 pub policy-is : (r : RosterData) (d : Data) (kind : Kind) (ties : Ties) (listed : List ListedPair) (groups : GroupsData) (orders : List (Option (List ℕ))) (steps : List (Option (List ℤ))) → kind ≡ kind_in d → ties ≡ ties_in d
     → listed ≡ listed_pairs r (elements_at pairs key.Listed d) → groups ≡ groups_joined (prefectures_of r (prefecture_entries d)).groups (groups_of r (group_entries d)) → orders ≡ (prefectures_of r (prefecture_entries d)).orders

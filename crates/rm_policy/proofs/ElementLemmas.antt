@@ -1,8 +1,9 @@
 -- The elements of an array, gone through in order.
-use Rattle.std.proofs.Common.{◌≡◌, ◌∙◌, ◌+◌, ◌<◌, ◌≤◌, ℕ, Bool, true, false, cond, List, [], ◌∷◌, ◌++◌, length, get_or, map, position, Option, Some, None, IfSome, refl, sym, ap, arith, length-append}
-use Rattle.std.specs.List.{position_or_len}
-use Rattle.std.proofs.lemmas.Bool.{ltb-true}
-use Rattle.std.proofs.lemmas.List.{length-map, get_or-map}
+use Rattle.std.proofs.Common.{◌≡◌, ◌∙◌, ◌+◌, ◌<◌, ◌≤◌, ℕ, Bool, true, false, not, cond, List, [], ◌∷◌, ◌++◌, length, get_or, map, position, replicate, set, Option, Some, None, IfSome, inl, inr, refl, sym, ap, arith, length-append}
+use Rattle.std.specs.List.{position_or_len, list_any}
+use Rattle.std.proofs.Math.Bool.{or-false, or_comm}
+use Rattle.std.proofs.lemmas.Bool.{cases_eq, cases_lt, eq-eqb, ltb-true, ne_eqb}
+use Rattle.std.proofs.lemmas.List.{length-map, length-replicate, get_or-map, get_or-replicate, get_or-set_same, get_or-set_other, get_or_past}
 use Rattle.std.proofs.lemmas.List.Elements.{filter_map-append}
 use Rattle.toml.specs.Data.{Data}
 use Rattle.toml.specs.View.{view}
@@ -13,6 +14,9 @@ use Rattle.rm_base.specs.declared.Refusal.{Refusal}
 use Rattle.rm_base.proofs.CheckLemmas.{AreThrough, through-start, through-more, through-stop, through-end, first-none}
 use Rattle.rm_base.specs.declared.codes.TheConstants.{UNKNOWN_ENTRY_NAME, WRONG_ORDER}
 use Rattle.rm_roster.specs.Roster.{RosterData}
+use Rattle.rm_sets.specs.Sets.{has}
+use Rattle.rm_sets.proofs.Sets.{has-append}
+use Rattle.rm_policy.specs.Answers.{AreMarks, fits_marked}
 use Rattle.rm_policy.specs.Entries.{policy_refusal, name_checks, number_named, numbers_of}
 use Rattle.rm_policy.specs.Prefectures.{fits, is_missing, order_element_checks}
 
@@ -113,3 +117,30 @@ pub order-ends : (checks : List (Option Refusal)) (wanted list members order : L
     → first_of (checks ++ check (is_missing wanted list) refusal ∷ []) ≡ first_of (check b refusal ∷ [])
 order-ends checks wanted list members order b refusal none same told is =
     first-none checks (check (is_missing wanted list) refusal ∷ []) none ∙ rw (← same, ← told, ← is) refl
+
+-- ---- marks
+
+pub marks-none : (n : ℕ) → AreMarks (replicate n false) []
+marks-none n = record {
+  each = λ h. elim (cases_lt h n) [
+    | inl less ↦ get_or-replicate n h false false less
+    | inr more ↦ get_or_past (replicate n false) h false (omega (arith, more, length-replicate n false))
+  ];
+}
+
+pub marks-more : (marks : List Bool) (list : List ℕ) (h : ℕ) → AreMarks marks list → h < length marks → AreMarks (set marks h true) (list ++ h ∷ [])
+marks-more marks list h a lt = record {
+  each = λ k. elim (cases_eq k h) [
+    | inl same ↦ rw (same, has-append list (h ∷ []) h, eq-eqb h h refl, get_or-set_same marks h true false lt) (or_comm true (has h list))
+    | inr other ↦ rw (has-append list (h ∷ []) k, ne_eqb k h other, get_or-set_other marks h k true false other, a.each k) (sym (or-false (has k list)))
+  ];
+}
+
+-- what marks tell of an element, and of the hospitals of a prefecture
+pub fits-marked : (r : RosterData) (p : ℕ) (number : Option ℕ) (marks : List Bool) (list : List ℕ) → AreMarks marks list → fits_marked r p marks number ≡ fits r p list number
+fits-marked r p None marks list a = refl
+fits-marked r p (Some h) marks list a = rw (a.each h) refl
+
+pub missing-marked : (hospitals list : List ℕ) (marks : List Bool) → AreMarks marks list → list_any (λ h. not (get_or marks h false)) hospitals ≡ is_missing hospitals list
+missing-marked [] list marks a = refl
+missing-marked (h ∷ hospitals) list marks a = rw (a.each h, missing-marked hospitals list marks a) refl

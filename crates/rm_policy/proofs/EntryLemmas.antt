@@ -4,11 +4,14 @@ use Rattle.std.specs.Prelude.{nat_lt, if◌then◌else◌}
 use Rattle.toml.specs.Data.{Data}
 use Rattle.rm_base.specs.Checks.{check, checks_from, first_of}
 use Rattle.rm_market.specs.Steps.{step_fault}
-use Rattle.rm_base.specs.Names.{place_of}
+use Rattle.rm_names.specs.Names.{place_of}
 use Rattle.rm_base.specs.Text.{Text}
+use Rattle.rm_base.specs.Reading.{Stops}
+use Rattle.rm_base.specs.declared.ReadFault.{ReadFault}
 use Rattle.rm_base.specs.declared.Refusal.{Refusal}
 use Rattle.rm_base.specs.declared.codes.TheConstants.{REPEATED_ENTRY, TARGETS_ABOVE_CAP}
 use Rattle.rm_base.proofs.CheckLemmas.{first-none, first-some}
+use Rattle.rm_base.proofs.Stopping.{stops-on}
 use Rattle.rm_roster.specs.Roster.{RosterData}
 use Rattle.rm_policy.specs.Entries.{policy_refusal, name_of_entry, read_at}
 use Rattle.rm_policy.specs.Prefectures.{order_checks, prefecture_checks, prefecture_name_checks, prefecture_shape_checks, prefecture_of_entry, targets_check, targets_of}
@@ -104,6 +107,21 @@ three-second a b c f x y = first-some (a ++ b) c f (first-none a b x ∙ y)
 
 pub three-third : (a b c : Checks) → first_of a ≡ None → first_of b ≡ None → first_of (a ++ b ++ c) ≡ first_of c
 three-third a b c x y = first-none (a ++ b) c (both-pass a b x y)
+
+pub record Blocks : Type 0 where
+  pub one : Checks
+  pub two : Checks
+  pub three : Checks
+
+-- where reading one of them stops, after those before it
+pub stops-first : (b : Blocks) (e : ReadFault) → Stops (first_of b.one) e → Stops (first_of (b.one ++ b.two ++ b.three)) e
+stops-first b e h = stops-on (first_of b.one) (first_of (b.one ++ b.two ++ b.three)) e (λ refusal some. three-first b.one b.two b.three refusal some) h
+
+pub stops-second : (b : Blocks) (e : ReadFault) → first_of b.one ≡ None → Stops (first_of b.two) e → Stops (first_of (b.one ++ b.two ++ b.three)) e
+stops-second b e x h = stops-on (first_of b.two) (first_of (b.one ++ b.two ++ b.three)) e (λ refusal some. three-second b.one b.two b.three refusal x some) h
+
+pub stops-third : (b : Blocks) (e : ReadFault) → first_of b.one ≡ None → first_of b.two ≡ None → Stops (first_of b.three) e → Stops (first_of (b.one ++ b.two ++ b.three)) e
+stops-third b e x y h = stops-on (first_of b.three) (first_of (b.one ++ b.two ++ b.three)) e (λ refusal some. three-third b.one b.two b.three x y ∙ some) h
 
 pub name-repeated : (first : ℕ) (names : List Text) (i f : ℕ) (name : Text) (refusal : Refusal) → Some f ≡ place_of names name → refusal ≡ policy_refusal REPEATED_ENTRY i (first + f + 1) → first_of (group_name_checks first names i name) ≡ Some refusal
 name-repeated first names i f name refusal found is = rw (← found, is) refl

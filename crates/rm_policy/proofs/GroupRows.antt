@@ -1,5 +1,5 @@
 -- The entries of prefectures and of groups, read one after another.
-use Rattle.std.proofs.Common.{◌≡◌, ◌∙◌, ◌+◌, ◌<◌, ◌≤◌, ◌||◌, ℕ, ℤ, List, [], ◌∷◌, ◌++◌, length, get_or, map, Some, None, refl, ap, sym, arith, length-append}
+use Rattle.std.proofs.Common.{◌≡◌, ◌∙◌, ◌+◌, ◌<◌, ◌≤◌, ℕ, ℤ, List, [], ◌∷◌, ◌++◌, length, get_or, map, Some, None, refl, ap, sym, arith, length-append}
 use Rattle.std.proofs.lemmas.List.{length-map, map_push}
 use Rattle.std.proofs.lemmas.List.Sums.{fold_push}
 use Rattle.toml.specs.Data.{Data}
@@ -10,10 +10,10 @@ use Rattle.rm_base.specs.Reading.{Stops}
 use Rattle.rm_base.specs.declared.ReadFault.{ReadFault}
 use Rattle.rm_base.specs.declared.Refusal.{Refusal}
 use Rattle.rm_roster.specs.Roster.{RosterData}
-use Rattle.rm_sets.specs.Sets.{has, all_below}
 use Rattle.rm_base.specs.Text.{Text}
+use Rattle.rm_policy.specs.Gathered.{united}
 use Rattle.rm_policy.specs.Entries.{name_of_entry, numbers_of}
-use Rattle.rm_policy.specs.Groups.{GroupsData, PrefecturesData, by_prefecture, groups_named, hospitals_named, lies_in, prefectures_named, steps_of_group, with_entry, group_entry_checks, group_checks_after, groups_of, no_groups, no_prefectures, prefectures_of, with_group, with_prefecture}
+use Rattle.rm_policy.specs.Groups.{GroupsData, PrefecturesData, groups_named, hospitals_named, prefectures_named, steps_of_group, with_entry, group_entry_checks, group_checks_after, groups_of, no_groups, no_prefectures, prefectures_of, with_group, with_prefecture}
 use Rattle.rm_policy.specs.Prefectures.{members_of_prefecture, order_in, prefecture_checks, prefecture_checks_after}
 use Rattle.rm_policy.specs.Steps.{cap_in, flat}
 use Rattle.rm_policy.specs.declared.Kind.{Kind}
@@ -105,12 +105,10 @@ groups-all r first vs i told a h =
     (done.0, a.told_is ∙ ap (groups_of r) (sym done.1), omega (arith, h, a.place, a.few))
 
 -- what is added is the next group
-pub group-added : (r : RosterData) (g : GroupsData) (d : Data) (new : GroupsData) (name : Text) (members : List ℕ) (steps : List ℤ) (count : ℕ) (hs ps gs : List ℕ) (psets gsets : List (List ℕ))
-    → new ≡ with_entry g name members steps → name ≡ name_of_entry d → steps ≡ steps_of_group d → members ≡ all_below count (λ h. has h hs || lies_in h psets ps || lies_in h gsets gs) → count ≡ length r.hospitals
-    → hs ≡ numbers_of r.hospitals (hospitals_named d) → psets ≡ by_prefecture r → ps ≡ numbers_of r.prefectures (prefectures_named d) → gsets ≡ g.members → gs ≡ numbers_of g.names (groups_named d)
-    → new ≡ with_group r g d
-group-added r g d new name members steps count hs ps gs psets gsets is name_is steps_is members_are count_is hs_are psets_are ps_are gsets_are gs_are =
-    is ∙ rw (name_is, steps_is, members_are, count_is, hs_are, psets_are, ps_are, gsets_are, gs_are) refl
+pub group-added : (r : RosterData) (g : GroupsData) (d : Data) (new : GroupsData) (name : Text) (members : List ℕ) (steps : List ℤ) (hs ps gs : List ℕ) (sets : List (List ℕ))
+    → new ≡ with_entry g name members steps → name ≡ name_of_entry d → steps ≡ steps_of_group d → members ≡ united r hs ps sets gs → hs ≡ numbers_of r.hospitals (hospitals_named d) → ps ≡ numbers_of r.prefectures (prefectures_named d)
+    → sets ≡ g.members → gs ≡ numbers_of g.names (groups_named d) → new ≡ with_group r g d
+group-added r g d new name members steps hs ps gs sets is name_is steps_is members_are hs_are ps_are sets_are gs_are = is ∙ rw (name_is, steps_is, members_are, hs_are, ps_are, sets_are, gs_are) refl
 
 -- the same by the names that are kept
 pub group-fault : (r : RosterData) (first : ℕ) (names same : List Text) (d : Data) (fault : ReadFault) → names ≡ same → Stops (first_of (group_entry_checks r first names d)) fault → Stops (first_of (group_entry_checks r first same d)) fault

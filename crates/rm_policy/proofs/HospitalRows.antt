@@ -11,9 +11,9 @@ use Rattle.toml.specs.View.{view}
 use Rattle.toml.specs.declared.value.Value.{Value}
 use Rattle.rm_sets.specs.Sets.{all_below}
 use Rattle.rm_base.specs.Checks.{first_of, checks_of}
-use Rattle.rm_base.specs.Names.{place_of}
+use Rattle.rm_names.specs.Names.{place_of}
 use Rattle.rm_base.specs.declared.Refusal.{Refusal}
-use Rattle.rm_base.proofs.FirstPlaces.{position_push, kept}
+use Rattle.rm_names.proofs.FirstPlaces.{position_push, kept}
 use Rattle.rm_roster.specs.Roster.{RosterData}
 use Rattle.rm_policy.specs.Entries.{name_of_entry}
 use Rattle.rm_policy.specs.Hospitals.{entry_of_hospital, found_hospital_checks, hospital_entry_checks, hospital_entry_checks_after, hospital_shape_checks, hospital_steps_of, hospitals_with_entries, steps_in, steps_of_hospital}

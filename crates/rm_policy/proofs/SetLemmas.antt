@@ -1,22 +1,24 @@
 -- Sets of numbers that are gathered in a loop.
-use Rattle.std.proofs.Common.{◌≡◌, ◌∙◌, ◌+◌, ◌*◌, ◌<◌, ◌≤◌, ◌==◌, ◌||◌, ◌&&◌, ℕ, Bool, cond, List, [], ◌∷◌, ◌++◌, length, take, get_or, refl, ap, sym, subst, arith, add-one, inl, inr, ⊎_elim, eqb, nat_lt, nat_cmp}
-use Rattle.std.specs.Prelude.{sum_by}
+use Rattle.std.proofs.Common.{◌≡◌, ◌∙◌, ◌+◌, ◌*◌, ◌<◌, ◌≤◌, ◌==◌, ◌||◌, ◌&&◌, ℕ, Bool, List, [], ◌∷◌, ◌++◌, length, take, get_or, refl, ap, sym, subst, arith, inl, inr, ⊎_elim, eqb, nat_lt, nat_cmp}
 use Rattle.std.specs.List.{list_any, dedup}
 use Rattle.std.specs.List.Sorted.{IsSorted, IsPermutation}
 use Rattle.std.specs.List.Retain.{IsFiltered, DiffersFromLast}
 use Rattle.std.proofs.Math.Bool.{or-false, and-false, or_assoc, and-or_distrib_left}
 use Rattle.std.proofs.lemmas.Bool.{cases_eq, ne_eqb, eq-eqb, lt-ltb, le-ltb, ltb-true, or_cases, and_parts}
+use Rattle.std.proofs.lemmas.List.{get_or-map, get_or_past, length-map}
 use Rattle.std.proofs.lemmas.List.Filters.{dedup_is}
 use Rattle.std.proofs.lemmas.List.Folds.{list_any_more}
 use Rattle.std.proofs.lemmas.List.Kept.{Contains-dedup_nat, Contains-from_dedup}
 use Rattle.std.proofs.lemmas.List.Sorted.{IsPermutation-sym, Contains-permutation}
-use Rattle.std.proofs.lemmas.List.Sums.{sum_by_push}
 use Rattle.std.proofs.lemmas.Map.Keys.{IsStrictlyIncreasing-dedup}
-use Rattle.rm_sets.specs.Sets.{has, IsIn, IsSet, all_below}
-use Rattle.rm_sets.proofs.Sets.{same_tests, has-append, has-all_below, IsSet-all_below, same_sets}
-use Rattle.rm_sets.proofs.Sizes.{length_below}
+use Rattle.rm_sets.specs.Sets.{has, IsIn, IsSet, all_below, below}
+use Rattle.rm_sets.proofs.Sets.{same_tests, below-all_below, has-append, has-all_below, IsSet-all_below, same_sets}
+use Rattle.rm_sets.proofs.Sizes.{length_below, length-all_below}
 use Rattle.rm_sets.proofs.Members.{IsIn-from_Contains, Contains-from_IsIn}
+use Rattle.rm_sets.proofs.Once.{get_or-below, length-below}
+use Rattle.rm_roster.specs.Roster.{RosterData, IsRoster, hospitals_in}
 use Rattle.rm_policy.specs.Gathered.{Gathers, IsGathered}
+use Rattle.rm_policy.specs.Groups.{by_prefecture}
 
 eqb_sym : (m n : ℕ) → (m == n) ≡ (n == m)
 eqb_sym m n = elim (cases_eq m n) [
@@ -24,17 +26,9 @@ eqb_sym m n = elim (cases_eq m n) [
   | inr other ↦ rw (ne_eqb m n other, ne_eqb n m (λ e. other (sym e))) refl
 ]
 
-pub has_contains : (n : ℕ) (xs : List ℕ) → list_any (λ x. x == n) xs ≡ has n xs
+has_contains : (n : ℕ) (xs : List ℕ) → list_any (λ x. x == n) xs ≡ has n xs
 has_contains n [] = refl
 has_contains n (x ∷ xs) = rw (eqb_sym x n, has_contains n xs) refl
-
--- ---- the numbers below n that pass a test
-
-pub all_below_more : (n : ℕ) (test : ℕ → Bool) → all_below (n + 1) test ≡ all_below n test ++ cond (test n) (n ∷ []) []
-all_below_more n test = rw (add-one n) refl
-
-pub sum_below_more : (f : ℕ → ℕ) (xs : List ℕ) (n : ℕ) → sum_by f (xs ++ n ∷ []) ≡ sum_by f xs + f n
-sum_below_more f xs n = sum_by_push f xs n
 
 -- ---- numbers that are gathered
 
@@ -109,3 +103,27 @@ gathered-union count a b c items first second third one two three set same =
     let both = gathers-more count [] a b first second (λ k. first k || second k) one two (λ k. refl) in
     let all = gathers-more count [] b c (λ k. first k || second k) third test both three (λ k. refl) in
     same_sets items (all_below count test) set (IsSet-all_below count test) (λ n. same n ∙ all.members n ∙ sym (has-all_below count test n))
+
+-- ---- the hospitals of a prefecture
+
+pub prefecture-set : (r : RosterData) (p : ℕ) → p < length r.prefectures → get_or (by_prefecture r) p [] ≡ hospitals_in r p
+prefecture-set r p lt =
+    let n = length r.prefectures in
+    get_or-map (hospitals_in r) (below n) p 0 [] (omega (arith, lt, length-below n)) ∙ ap (hospitals_in r) (get_or-below n p 0 lt)
+
+pub no-prefecture : (r : RosterData) (p : ℕ) → length r.prefectures ≤ p → get_or (by_prefecture r) p [] ≡ []
+no-prefecture r p le =
+    let n = length r.prefectures in
+    get_or_past (by_prefecture r) p [] (omega (arith, le, length-map (below n) (hospitals_in r), length-below n))
+
+-- no number is added where there is no prefecture
+pub gathers-none : (count : ℕ) (L set : List ℕ) → set ≡ [] → Gathers count L L (λ n. has n set)
+gathers-none count L set e = record { members = λ n. rw (e, and-false (nat_lt n count)) (sym (or-false (has n L))) }
+
+pub hospital-low : (r : RosterData) (p : ℕ) (members : List ℕ) → members ≡ hospitals_in r p → (h : ℕ) → IsIn h members → h < length r.hospitals
+hospital-low r p members is h i = (below-all_below (length r.hospitals) (λ k. get_or r.prefecture_of k 0 == p) h (rw is at i)).0
+
+pub hospitals-few : (r : RosterData) (p : ℕ) (members : List ℕ) → IsRoster r → members ≡ hospitals_in r p → length members ≤ 10000
+hospitals-few r p members roster is =
+    let short : length members ≤ length r.hospitals = rw is (length-all_below (length r.hospitals) (λ k. get_or r.prefecture_of k 0 == p)) in
+    omega (arith, short, roster.few_hospitals)

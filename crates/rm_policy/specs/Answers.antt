@@ -1,17 +1,21 @@
 -- What reading values and entries answers.
-use Rattle.std.specs.Prelude.{◌≡◌, ℕ, true, false, List, map, option_map, Option, Some, None, Result, Ok, Err, Vec}
+use Rattle.std.specs.Prelude.{◌≡◌, ℕ, Bool, true, false, not, ◌&&◌, ◌==◌, slice_index, List, get_or, map, option_map, Option, Some, None, Result, Ok, Err, Vec}
 use Rattle.std.specs.Borrow.{Bor}
+use Rattle.std.specs.Option.{option_map_or}
 use Rattle.std.specs.declared.alloc.Global.{Global}
 use Rattle.toml.specs.Data.{Data}
 use Rattle.toml.specs.View.{view}
 use Rattle.toml.specs.declared.value.Value.{Value}
-use Rattle.rm_base.specs.Checks.{first_of}
+use Rattle.rm_base.specs.Checks.{checks_of, first_of}
 use Rattle.rm_base.specs.Reading.{Stops}
 use Rattle.rm_base.specs.Text.{Text}
 use Rattle.rm_base.specs.declared.ReadFault.{ReadFault}
 use Rattle.rm_base.specs.declared.Refusal.{Refusal}
+use Rattle.rm_sets.specs.Sets.{has}
+use Rattle.rm_roster.specs.Roster.{RosterData}
 use Rattle.rm_policy.specs.Values.{elements_of, ties, pairs}
-use Rattle.rm_policy.specs.Entries.{value_at, is_present, is_bad, read_at, elements_at}
+use Rattle.rm_policy.specs.Entries.{value_at, is_present, is_bad, read_at, elements_at, numbers_of}
+use Rattle.rm_policy.specs.Prefectures.{order_checks, order_element_checks}
 use Rattle.rm_policy.specs.Top.{top_checks, kind_in, ties_in, prefecture_entries, group_entries, hospital_entries}
 use Rattle.rm_policy.specs.declared.Ties.{Ties}
 use Rattle.rm_policy.specs.declared.entries.Found.{Found}
@@ -53,6 +57,22 @@ ReadsItems first all (Err e) = Stops first e
 
 abbrev pub ReadsNumbers : Option Refusal → List ℕ → Result (Vec ℕ Global) ReadFault → Type 0
 ReadsNumbers first all r = ReadsItems first all r
+
+-- the marks of a list: each number has one exactly where it is in the list
+pub record AreMarks (marks : List Bool) (list : List ℕ) : Type 0 where
+  pub each : (h : ℕ) → get_or marks h false ≡ has h list
+
+-- an element fits that names a hospital of prefecture p that has no mark
+abbrev pub fits_marked : RosterData → ℕ → List Bool → Option ℕ → Bool
+fits_marked r p marks number = option_map_or (λ h. (slice_index r.prefecture_of h == p) && not (get_or marks h false)) number false
+
+-- the hospitals of an order, where each element fits
+abbrev pub ReadsOrderElements : RosterData → ℕ → ℕ → List Data → Result (Vec ℕ Global) ReadFault → Type 0
+ReadsOrderElements r i p ds result = ReadsNumbers (first_of (checks_of (order_element_checks r i p) ds)) (numbers_of r.hospitals ds) result
+
+-- the same, where no hospital of the prefecture is missing
+abbrev pub ReadsOrder : RosterData → ℕ → ℕ → List Data → Result (Vec ℕ Global) ReadFault → Type 0
+ReadsOrder r i p ds result = ReadsNumbers (first_of (order_checks r i p (Some ds))) (numbers_of r.hospitals ds) result
 
 -- the tie order, unless its value is bad
 abbrev pub ReadsTies : Data → Option Ties → Type 0

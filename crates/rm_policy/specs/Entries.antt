@@ -5,7 +5,7 @@ use Rattle.std.specs.Str.{bytes_eq}
 use Rattle.toml.specs.Data.{Data, get, as_str}
 use Rattle.rm_base.specs.Checks.{check}
 use Rattle.rm_base.specs.Codes.{refuse}
-use Rattle.rm_base.specs.Names.{place_of}
+use Rattle.rm_names.specs.Names.{place_of}
 use Rattle.rm_base.specs.Text.{Text}
 use Rattle.rm_base.specs.declared.Refusal.{Refusal}
 use Rattle.rm_base.specs.declared.codes.TheConstants.{POLICY_FILE, UNKNOWN_KEY, BAD_VALUE, UNKNOWN_ENTRY_NAME}

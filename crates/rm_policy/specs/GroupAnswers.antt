@@ -3,9 +3,9 @@ use Rattle.std.specs.Prelude.{◌≡◌, ◌≤◌, ℕ, ℤ, List, [], map, Opt
 use Rattle.std.specs.Borrow.{Bor}
 use Rattle.toml.specs.Data.{Data}
 use Rattle.toml.specs.View.{view}
-use Rattle.rm_base.specs.Checks.{first_of}
-use Rattle.rm_base.specs.Names.{place_of}
-use Rattle.rm_base.specs.Reading.{Stops}
+use Rattle.rm_base.specs.Checks.{checks_of, first_of}
+use Rattle.rm_names.specs.Names.{place_of}
+use Rattle.rm_base.specs.Reading.{Grows, Reads, Stops}
 use Rattle.rm_base.specs.Text.{Text}
 use Rattle.rm_base.specs.declared.ReadFault.{ReadFault}
 use Rattle.rm_base.specs.declared.Refusal.{Refusal}
@@ -13,8 +13,8 @@ use Rattle.rm_market.specs.Steps.{steps_of}
 use Rattle.rm_market.specs.declared.Run.{Run}
 use Rattle.rm_roster.specs.Roster.{RosterData}
 use Rattle.rm_policy.specs.Entries.{name_of_entry, numbers_of}
-use Rattle.rm_policy.specs.Groups.{group_element_checks, group_array_checks, group_entry_checks, group_head_checks, group_limit_checks, group_shape_checks, groups_named, hospitals_named, prefectures_named, steps_of_group}
-use Rattle.rm_policy.specs.Hospitals.{hospital_entry_checks, hospital_shape_checks, steps_in}
+use Rattle.rm_policy.specs.Groups.{GroupsData, group_element_checks, group_array_checks, group_checks_after, group_entry_checks, group_head_checks, group_limit_checks, group_shape_checks, groups_named, groups_of, hospitals_named, prefectures_named, steps_of_group, with_group}
+use Rattle.rm_policy.specs.Hospitals.{hospital_entry_checks, hospital_entry_checks_after, hospital_shape_checks, hospital_steps_of, steps_in}
 use Rattle.rm_policy.specs.Steps.{flat, runs_in, runs_of}
 use Rattle.rm_policy.specs.declared.groups.Elements.{Elements}
 use Rattle.rm_policy.specs.declared.groups.GroupArrays.{GroupArrays}
@@ -77,6 +77,10 @@ ReadsGroupElements r names i hospitals prefectures groups (Ok e) =
     × (e.groups.items ≡ numbers_of names groups)
 ReadsGroupElements r names i hospitals prefectures groups (Err fault) = Stops (first_of (group_element_checks r names i hospitals prefectures groups)) fault
 
+-- the same of the values of an entry
+abbrev pub ReadsElements : RosterData → List Text → ℕ → GroupArrays → Result Elements ReadFault → Type 0
+ReadsElements r names i a result = ReadsGroupElements r names i (map view a.hospitals.now) (map view a.prefectures.now) (map view a.groups.now) result
+
 abbrev pub ReadsGroup : RosterData → ℕ → List Text → Data → Result GroupEntry ReadFault → Type 0
 ReadsGroup r first names d (Ok e) =
     (first_of (group_entry_checks r first names d) ≡ None)
@@ -86,6 +90,14 @@ ReadsGroup r first names d (Ok e) =
     × (e.elements.groups.items ≡ numbers_of names (groups_named d))
     × (e.steps ≡ steps_of_group d)
 ReadsGroup r first names d (Err fault) = Stops (first_of (group_entry_checks r first names d)) fault
+
+-- the entry of a value after those before it, or its first refusal
+abbrev pub AddsGroup : RosterData → ℕ → GroupsData → Data → GroupsData → Result (Unit {0}) ReadFault → Type 0
+AddsGroup r first old d new result = Grows (first_of (group_entry_checks r first old.names d)) (with_group r old d) new result
+
+-- the entries of values, or their first refusal
+abbrev pub ReadsGroups : RosterData → ℕ → List Data → Result GroupsData ReadFault → Type 0
+ReadsGroups r first ds result = Reads (first_of (checks_of (group_checks_after r first) ds)) (groups_of r ds) result
 
 -- ---- hospitals
 
@@ -100,3 +112,7 @@ ReadsHospitalEntry r former i d (Ok e) =
     × (former e.hospital ≡ None)
     × (e.steps ≡ steps_in d)
 ReadsHospitalEntry r former i d (Err fault) = Stops (first_of (hospital_entry_checks r former i d)) fault
+
+-- the steps that the entries of values give, or their first refusal
+abbrev pub ReadsHospitals : RosterData → ℕ → List Data → Result (List (Option (List ℤ))) ReadFault → Type 0
+ReadsHospitals r first ds result = Reads (first_of (checks_of (hospital_entry_checks_after r first) ds)) (hospital_steps_of r ds) result

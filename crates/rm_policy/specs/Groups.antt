@@ -1,20 +1,21 @@
 -- The entries of groups.
-use Rattle.std.specs.Prelude.{ℕ, ◌+◌, Bool, false, not, ◌&&◌, ◌||◌, nat_lt, List, [], ◌∷◌, ◌++◌, length, map, get_or, fold, ℤ, Option, option_map, if◌then◌else◌}
+use Rattle.std.specs.Prelude.{ℕ, ◌+◌, Bool, false, not, ◌&&◌, ◌||◌, nat_lt, List, [], ◌∷◌, ◌++◌, length, map, get_or, fold, ℤ, Option, option_map, Vec, if◌then◌else◌}
 use Rattle.std.specs.List.{list_any}
 use Rattle.std.specs.Option.{option_map_or}
+use Rattle.std.specs.declared.alloc.Global.{Global}
 use Rattle.toml.specs.Data.{Data, as_str}
 use Rattle.rm_sets.specs.Sets.{has, all_below, below}
 use Rattle.rm_base.specs.Checks.{check, checks_of}
-use Rattle.rm_base.specs.Names.{is_name, place_of}
-use Rattle.rm_base.specs.Text.{Text}
+use Rattle.rm_names.specs.Names.{place_of}
+use Rattle.rm_base.specs.Text.{Text, is_name}
 use Rattle.rm_base.specs.declared.Refusal.{Refusal}
 use Rattle.rm_base.specs.declared.codes.TheConstants.{REPEATED_ENTRY, TOO_MANY_ITEMS, MOST_GROUPS, GROUPS_LIMIT}
 use Rattle.rm_market.specs.Steps.{steps_of}
-use Rattle.rm_roster.specs.Roster.{RosterData}
+use Rattle.rm_roster.specs.Roster.{RosterData, hospitals_in}
 use Rattle.rm_policy.specs.Values.{cap, runs, texts}
 use Rattle.rm_policy.specs.Entries.{policy_refusal, bad_value, is_present, is_bad, read_at, optional, elements_at, only_keys, name_of_entry, numbers_of, name_checks}
 use Rattle.rm_policy.specs.Steps.{cap_in, flat, runs_in, step_checks}
-use Rattle.rm_policy.specs.Prefectures.{hospitals_in, members_of_prefecture, order_in}
+use Rattle.rm_policy.specs.Prefectures.{members_of_prefecture, order_in}
 use Rattle.rm_policy.specs.declared.keys.Key.{Key}
 use Rattle.rm_policy.specs.declared.keys.Key.TheVariants as key
 
@@ -93,6 +94,20 @@ no_groups = record { names = []; members = []; steps = [] }
 abbrev pub with_entry : GroupsData → Text → List ℕ → List ℤ → GroupsData
 with_entry g name members steps = record { names = g.names ++ name ∷ []; members = g.members ++ members ∷ []; steps = g.steps ++ steps ∷ [] }
 
+-- the groups of a policy, of which the first ones are those of the prefecture entries of these names
+pub record PolicyGroups : Type 0 where
+  pub entries : List Text
+  pub groups : GroupsData
+
+-- the items of each of these lists
+abbrev pub each_set : List (Vec ℕ Global) → List (List ℕ)
+each_set sets = map (λ s. s.items) sets
+
+-- the groups of prefecture entries of these names and then those of group entries, told by what is kept of them
+abbrev pub groups_kept : List Text → List Text → List (Vec ℕ Global) → List (List ℤ) → PolicyGroups
+groups_kept entries others members steps =
+    record { entries = entries; groups = record { names = entries ++ others; members = each_set members; steps = steps } }
+
 -- groups after groups
 abbrev pub groups_joined : GroupsData → GroupsData → GroupsData
 groups_joined g more = record { names = g.names ++ more.names; members = g.members ++ more.members; steps = g.steps ++ more.steps }
@@ -134,7 +149,8 @@ abbrev pub no_prefectures : PrefecturesData
 no_prefectures = record { groups = no_groups; orders = [] }
 
 abbrev pub with_prefecture : RosterData → PrefecturesData → Data → PrefecturesData
-with_prefecture r p e = record { groups = with_entry p.groups (name_of_entry e) (members_of_prefecture r e) (flat (cap_in e)); orders = p.orders ++ order_in r e ∷ [] }
+with_prefecture r p e =
+    record { groups = with_entry p.groups (name_of_entry e) (members_of_prefecture r e) (flat (cap_in e)); orders = p.orders ++ order_in r e ∷ [] }
 
 abbrev pub prefectures_of : RosterData → List Data → PrefecturesData
 prefectures_of r entries =

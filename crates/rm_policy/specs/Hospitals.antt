@@ -3,7 +3,7 @@ use Rattle.std.specs.Prelude.{ℕ, ◌+◌, ◌==◌, nat_lt, List, [], ◌∷�
 use Rattle.toml.specs.Data.{Data, as_str}
 use Rattle.rm_sets.specs.Sets.{below}
 use Rattle.rm_base.specs.Checks.{check}
-use Rattle.rm_base.specs.Names.{place_of}
+use Rattle.rm_names.specs.Names.{place_of}
 use Rattle.rm_base.specs.declared.Refusal.{Refusal}
 use Rattle.rm_base.specs.declared.codes.TheConstants.{UNKNOWN_ENTRY_NAME, REPEATED_ENTRY, MORE_STEPS_THAN_SEATS}
 use Rattle.rm_market.specs.Steps.{steps_of}

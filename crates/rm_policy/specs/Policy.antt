@@ -1,5 +1,5 @@
 -- The policy of a document and a roster, or its first refusal.
-use Rattle.std.specs.Prelude.{◌≡◌, ◌≤◌, Result, Ok, Err, ℕ, ◌+◌, List, [], ◌∷◌, ◌++◌, length, filter_map, ℤ, Option, Some, None, option_map}
+use Rattle.std.specs.Prelude.{◌≡◌, ◌≤◌, Result, Ok, Err, ℕ, ◌+◌, List, [], ◌∷◌, ◌++◌, length, map, take, filter_map, ℤ, Option, Some, None, option_map}
 use Rattle.toml.specs.Data.{Data}
 use Rattle.toml.specs.View.{view}
 use Rattle.toml.specs.declared.value.Value.{Value}
@@ -7,9 +7,9 @@ use Rattle.rm_base.specs.Checks.{checks_of, first_of}
 use Rattle.rm_base.specs.Reading.{Stops}
 use Rattle.rm_base.specs.declared.ReadFault.{ReadFault}
 use Rattle.rm_base.specs.declared.ReadFault.TheVariants as fault
-use Rattle.rm_base.specs.Names.{place_of}
+use Rattle.rm_names.specs.Names.{place_of}
 use Rattle.rm_base.specs.Text.{Text}
-use Rattle.rm_base.specs.declared.ListedPair.{ListedPair}
+use Rattle.rm_market.specs.declared.ListedPair.{ListedPair}
 use Rattle.rm_base.specs.declared.Refusal.{Refusal}
 use Rattle.rm_base.specs.declared.codes.TheConstants.{MOST_GROUPS, NOT_TOML}
 use Rattle.rm_roster.specs.Roster.{RosterData}
@@ -17,7 +17,7 @@ use Rattle.rm_policy.specs.Values.{pair, pairs}
 use Rattle.rm_policy.specs.Entries.{policy_refusal, elements_at}
 use Rattle.rm_policy.specs.Top.{top_checks, kind_in, ties_in, prefecture_entries, group_entries, hospital_entries}
 use Rattle.rm_policy.specs.Prefectures.{prefecture_checks_after}
-use Rattle.rm_policy.specs.Groups.{GroupsData, group_checks_after, groups_of, groups_joined, no_groups, prefectures_of}
+use Rattle.rm_policy.specs.Groups.{GroupsData, PolicyGroups, group_checks_after, groups_of, groups_joined, no_groups, prefectures_of}
 use Rattle.rm_policy.specs.Hospitals.{hospital_entry_checks_after, hospital_steps_of}
 use Rattle.rm_policy.specs.declared.Kind.{Kind}
 use Rattle.rm_policy.specs.declared.Kind.TheVariants as kinds
@@ -25,6 +25,7 @@ use Rattle.rm_policy.specs.declared.Ties.{Ties}
 use Rattle.rm_policy.specs.declared.Ties.TheVariants as tie
 use Rattle.rm_policy.specs.declared.keys.Key.TheVariants as key
 use Rattle.rm_policy.specs.declared.policy.Entries.{Entries}
+use Rattle.rm_policy.specs.declared.top.Top.{Top}
 
 -- the checks of entries: items count from 1 through those of prefectures, of groups and of hospitals
 abbrev pub entry_checks : RosterData → Kind → List Data → List Data → List Data → List (Option Refusal)
@@ -54,6 +55,20 @@ pub record IsPolicy (p : PolicyData) : Type 0 where
   pub steps_each : length p.groups.steps ≡ length p.groups.members
   pub few_groups : length p.groups.members ≤ MOST_GROUPS
   pub few_orders : length p.orders ≤ length p.groups.members
+
+-- a policy by its parts
+abbrev pub policy_with : Kind → Ties → List ListedPair → PolicyGroups → List (Option (List ℕ)) → List (Option (List ℤ)) → PolicyData
+policy_with kind ties listed all orders hospital_steps =
+    record { kind = kind; ties = ties; listed = listed; groups = all.groups; orders = orders; hospital_steps = hospital_steps }
+
+-- the names of the prefecture entries, which come first
+abbrev pub entry_names : PolicyData → List Text
+entry_names p = take (length p.orders) p.groups.names
+
+-- what is kept with a policy: the names of its prefecture entries
+pub record IsPolicyKept (entries : List Text) (p : PolicyData) : Type 0 where
+  pub policy : IsPolicy p
+  pub entries_are : entries ≡ entry_names p
 
 -- the policy of a folder that has none
 abbrev pub plain : PolicyData
@@ -91,6 +106,10 @@ ReadsEntries r kind prefectures groups hospitals (Ok e) =
     × (e.groups ≡ groups_of r groups)
     × (e.hospital_steps ≡ hospital_steps_of r hospitals)
 ReadsEntries r kind prefectures groups hospitals (Err e) = Stops (first_of (entry_checks r kind prefectures groups hospitals)) e
+
+-- the same of a top
+abbrev pub ReadsTopEntries : RosterData → Top → Result Entries ReadFault → Type 0
+ReadsTopEntries r top result = ReadsEntries r top.kind (map view top.prefectures.now) (map view top.groups.now) (map view top.hospitals.now) result
 
 -- what reading a policy answers: what its document says, or the first refusal
 abbrev pub ReadsPolicy : RosterData → Option Data → Result PolicyData ReadFault → Type 0

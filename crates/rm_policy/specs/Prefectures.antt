@@ -3,13 +3,13 @@ use Rattle.std.specs.Prelude.{ℕ, ◌+◌, Bool, false, not, ◌&&◌, ◌==◌
 use Rattle.std.specs.List.{list_any}
 use Rattle.std.specs.Option.{option_map_or}
 use Rattle.toml.specs.Data.{Data, as_str}
-use Rattle.rm_sets.specs.Sets.{has, all_below}
+use Rattle.rm_sets.specs.Sets.{has}
 use Rattle.rm_base.specs.Checks.{check, checks_of}
-use Rattle.rm_base.specs.Names.{place_of}
+use Rattle.rm_names.specs.Names.{place_of}
 use Rattle.rm_base.specs.Text.{Text}
 use Rattle.rm_base.specs.declared.Refusal.{Refusal}
 use Rattle.rm_base.specs.declared.codes.TheConstants.{UNKNOWN_ENTRY_NAME, REPEATED_ENTRY, WRONG_ORDER, TARGETS_ABOVE_CAP, TOO_MANY_ITEMS, MOST_GROUPS, GROUPS_LIMIT}
-use Rattle.rm_roster.specs.Roster.{RosterData}
+use Rattle.rm_roster.specs.Roster.{RosterData, hospitals_in}
 use Rattle.rm_policy.specs.Values.{cap, texts}
 use Rattle.rm_policy.specs.Entries.{policy_refusal, read_at, required, optional, only_keys, name_of_entry, number_named, numbers_of}
 use Rattle.rm_policy.specs.Steps.{cap_in}
@@ -18,13 +18,12 @@ use Rattle.rm_policy.specs.declared.Kind.{Kind}
 use Rattle.rm_policy.specs.declared.keys.Key.{Key}
 use Rattle.rm_policy.specs.declared.keys.Key.TheVariants as key
 
--- the hospitals of each prefecture, in the order of their rows
-abbrev pub hospitals_in : RosterData → ℕ → List ℕ
-hospitals_in r p = all_below (length r.hospitals) (λ h. slice_index r.prefecture_of h == p)
+-- the sum of the targets of hospitals, and of those of a prefecture
+abbrev pub sum_of_targets : RosterData → List ℕ → ℕ
+sum_of_targets r hospitals = sum_by (slice_index r.targets) hospitals
 
--- the sum of the targets of a prefecture
 abbrev pub targets_of : RosterData → ℕ → ℕ
-targets_of r p = sum_by (slice_index r.targets) (hospitals_in r p)
+targets_of r p = sum_of_targets r (hospitals_in r p)
 
 -- ---- the order of a prefecture
 

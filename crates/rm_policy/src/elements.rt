@@ -1,17 +1,17 @@
 // Arrays of names: each element is to hold a known one.
 
-ghost use Rattle.std.specs.Prelude.{◌≡◌, ◌+◌, ◌<◌, ◌^◌, ◌==◌, ◌&&◌, Option, List, Some, None, map, length, not, filter_map, option_map, option_and_then, slice_index, true, IfSome};
+ghost use Rattle.std.specs.Prelude.{◌≡◌, ◌+◌, ◌<◌, ◌^◌, [], get_or, map, length, not, false, IfOk, IfSome};
+ghost use Rattle.std.specs.List.{list_any};
 ghost use Rattle.toml.specs.View.{view};
-ghost use Rattle.rm_sets.specs.Sets.{has};
-ghost use Rattle.rm_base.specs.Checks.{check, checks_of, first_of};
-ghost use Rattle.rm_policy.specs.Answers.{ReadsNumbers};
+ghost use Rattle.rm_base.specs.Checks.{checks_of, first_of};
+ghost use Rattle.rm_policy.specs.Answers.{AreMarks, ReadsNumbers, ReadsOrder, ReadsOrderElements, fits_marked};
 ghost use Rattle.rm_policy.specs.Entries.{name_checks, number_named, numbers_of};
-ghost use Rattle.rm_policy.specs.Prefectures.{fits, hospitals_in, order_checks, order_element_checks};
+ghost use Rattle.rm_roster.specs.Roster.{hospitals_in};
 
 use crate::entries::refused;
-use crate::sets::{has, is_missing};
+use rm_base::ReadFault;
 use rm_base::codes::{UNKNOWN_ENTRY_NAME, WRONG_ORDER};
-use rm_base::{Names, ReadFault};
+use rm_names::Names;
 use rm_roster::Roster;
 use std::alloc::Global;
 use toml::Value;
@@ -52,34 +52,52 @@ pub fn read_names(
     Ok(numbers)
 }
 
-// Whether a hospital is one of a prefecture, and not among those named before.
-fn fits(roster: &Roster, p: u32, named: &[u32], number: Option<u32>) -> bool
+// Whether a hospital is marked as named.
+fn is_named(named: &[bool], h: u32) -> bool
+    ensures { result ≡ get_or named.now h false }
+{
+    match named.get(h as usize) {
+        Some(named) => *named,
+        None => false,
+    }
+}
+
+// Whether a hospital is one of a prefecture, and not marked as named before.
+fn fits(roster: &Roster, p: u32, named: &[bool], number: Option<u32>) -> bool
     requires { IfSome number (λ h. h < length roster.now.hospitals) }
-    ensures { result ≡ fits roster.now p named.now number }
+    ensures { result ≡ fits_marked roster.now p named.now number }
 {
     let Some(h) = number else {
         return false;
     };
-    if roster.prefecture_of(h) != p {
-        return false;
-    }
-    !has(named, h)
+    roster.prefecture_of(h) == p && !is_named(named, h)
 }
 
-// The hospitals that the elements of an order name: each is one of the prefecture, and stands once.
+// Whether a hospital of these is not marked as named.
+fn is_missing(hospitals: &[u32], named: &[bool]) -> bool
+    ensures { result ≡ list_any (λ h. not (get_or named.now h false)) hospitals.now }
+{
+    hospitals.iter().any(|h| !is_named(named, *h))
+}
+
+// The hospitals that the elements of an order name: each is one of the prefecture, and stands once. They are marked.
 fn read_order_elements(
     alloc: Global,
     values: &[Value],
     roster: &Roster,
     p: u32,
     item: u64,
+    named: &mut [bool],
 ) -> Result<Vec<u32>, ReadFault>
-    ensures { ReadsNumbers (first_of (checks_of (order_element_checks roster.now item p) (map view values.now))) (numbers_of roster.now.hospitals (map view values.now)) result }
+    requires none { AreMarks named.old [] }
+    requires each { length named.old ≡ length roster.now.hospitals }
+    ensures reads { ReadsOrderElements roster.now item p (map view values.now) result }
+    ensures marks { IfOk result (λ order. AreMarks named.new order.items) }
 {
     let mut order = Vec::new(alloc);
     for j in 0..values.len() {
         let number = number_of(&values[j], roster.hospitals());
-        if !fits(roster, p, &order, number) {
+        if !fits(roster, p, named, number) {
             let element = j as u64 + 1;
             return Err(ReadFault::Refused(refused(WRONG_ORDER, item, element)));
         }
@@ -87,6 +105,7 @@ fn read_order_elements(
         if order.push(h).is_err() {
             return Err(ReadFault::NoMemory);
         }
+        named[h as usize] = true;
     }
     Ok(order)
 }
@@ -101,13 +120,16 @@ pub fn read_order(
     item: u64,
 ) -> Result<Vec<u32>, ReadFault>
     requires { members.now ≡ hospitals_in roster.now p }
-    ensures { ReadsNumbers (first_of (order_checks roster.now item p (Some (map view values.now)))) (numbers_of roster.now.hospitals (map view values.now)) result }
+    ensures { ReadsOrder roster.now item p (map view values.now) result }
 {
-    let order = match read_order_elements(alloc, values, roster, p, item) {
+    let Ok(mut named) = vec![in alloc; false; roster.hospitals().len() as usize] else {
+        return Err(ReadFault::NoMemory);
+    };
+    let order = match read_order_elements(alloc, values, roster, p, item, &mut named) {
         Ok(order) => order,
         Err(fault) => return Err(fault),
     };
-    if is_missing(members, &order) {
+    if is_missing(members, &named) {
         let element = values.len() as u64 + 1;
         return Err(ReadFault::Refused(refused(WRONG_ORDER, item, element)));
     }

@@ -3,11 +3,11 @@
 ghost use Rattle.std.specs.Prelude.{◌≡◌, ◌≤◌, ◌<◌, ◌+◌, ◌^◌, List, Some, None, IfOk, length, map};
 ghost use Rattle.toml.specs.View.{view};
 ghost use Rattle.rm_base.specs.Checks.{first_of};
-ghost use Rattle.rm_base.specs.Names.{place_of};
+ghost use Rattle.rm_names.specs.Names.{place_of};
 ghost use Rattle.rm_base.specs.Reading.{Reads};
 ghost use Rattle.rm_policy.specs.Entries.{name_of_entry, value_at};
 ghost use Rattle.rm_policy.specs.Steps.{step_checks};
-ghost use Rattle.rm_policy.specs.GroupAnswers.{IsFit, ReadsArrays, ReadsGroupElements, ReadsGroup, ReadsGroupName, ReadsGroupShape, ReadsLimit, runs_of_limit, steps_of_limit};
+ghost use Rattle.rm_policy.specs.GroupAnswers.{IsFit, ReadsArrays, ReadsElements, ReadsGroup, ReadsGroupName, ReadsGroupShape, ReadsLimit, runs_of_limit, steps_of_limit};
 
 use crate::elements::read_names;
 use crate::entries::{Found, array_at, bad_value, has_only, list_at, refused, text_at};
@@ -16,7 +16,8 @@ use crate::steps::read_steps;
 use crate::values::{Shape, cap, value_at};
 use rm_base::codes::{GROUPS_LIMIT, MOST_GROUPS, REPEATED_ENTRY, TOO_MANY_ITEMS, UNKNOWN_KEY};
 use rm_base::text::is_name;
-use rm_base::{Names, ReadFault, Refusal};
+use rm_base::{ReadFault, Refusal};
+use rm_names::Names;
 use rm_roster::Roster;
 use rm_steps::Steps;
 use std::alloc::Global;
@@ -171,7 +172,7 @@ fn read_elements(
     arrays: &GroupArrays<'_>,
     item: u64,
 ) -> Result<Elements, ReadFault>
-    ensures { ReadsGroupElements roster.now names.now item (map view arrays.now.hospitals.now) (map view arrays.now.prefectures.now) (map view arrays.now.groups.now) result }
+    ensures { ReadsElements roster.now names.now item arrays.now result }
 {
     let count = arrays.hospitals.len() as u64;
     let hospitals = match read_names(alloc, arrays.hospitals, roster.hospitals(), item, 0) {

@@ -1,19 +1,18 @@
 // Groups that are built, one entry after another.
 
-ghost use Rattle.std.specs.Prelude.{◌≡◌, ◌≤◌, ◌<◌, ◌+◌, List, None, Some, OnOk, map, length};
+ghost use Rattle.std.specs.Prelude.{◌≡◌, ◌≤◌, ◌<◌, ◌+◌, None, OnOk, map, length};
 ghost use Rattle.toml.specs.View.{view};
-ghost use Rattle.rm_base.specs.Checks.{first_of, checks_of};
-ghost use Rattle.rm_base.specs.Names.{place_of};
-ghost use Rattle.rm_base.specs.Reading.{Grows, Reads};
-ghost use Rattle.rm_policy.specs.EntryAnswers.{items_of};
-ghost use Rattle.rm_policy.specs.Groups.{by_prefecture, group_entry_checks, group_checks_after, groups_of, no_groups, no_prefectures, prefectures_of, with_entry, with_group, with_prefecture};
-ghost use Rattle.rm_policy.specs.Prefectures.{prefecture_checks, prefecture_checks_after};
+ghost use Rattle.rm_names.specs.Names.{place_of};
+ghost use Rattle.rm_policy.specs.EntryAnswers.{AddsPrefecture, ReadsPrefectures, items_of};
+ghost use Rattle.rm_policy.specs.GroupAnswers.{AddsGroup, ReadsGroups};
+ghost use Rattle.rm_policy.specs.Groups.{no_groups, no_prefectures, with_entry};
 
 use crate::Kind;
 use crate::groups::read_group;
 use crate::prefectures::read_prefecture;
-use crate::sets::{by_prefecture, union};
-use rm_base::{Added, Names, NoMemory, ReadFault};
+use crate::sets::union;
+use rm_base::{NoMemory, ReadFault};
+use rm_names::{Added, Names};
 use rm_roster::Roster;
 use rm_steps::Steps;
 use std::alloc::{AllocError, Global};
@@ -118,7 +117,7 @@ impl Prefectures {
         kind: Kind,
         value: &Value,
     ) -> Result<(), ReadFault>
-        ensures entry { Grows (first_of (prefecture_checks roster.now kind self.old.groups.names (view value.now))) (with_prefecture roster.now self.old (view value.now)) self.new result }
+        ensures entry { AddsPrefecture roster.now kind self.old (view value.now) self.new result }
         ensures few { OnOk result (length self.old.groups.names < 5_000) }
     {
         let entry = match read_prefecture(alloc, roster, kind, &self.groups.names, value) {
@@ -144,7 +143,7 @@ impl Prefectures {
         kind: Kind,
         values: &[Value],
     ) -> Result<Prefectures, ReadFault>
-        ensures entries { Reads (first_of (checks_of (prefecture_checks_after roster.now kind) (map view values.now))) (prefectures_of roster.now (map view values.now)) result }
+        ensures entries { ReadsPrefectures roster.now kind (map view values.now) result }
         ensures few { OnOk result (length values.now ≤ 5_000) }
     {
         let mut prefectures = Prefectures::new(alloc);
@@ -164,24 +163,20 @@ impl Groups {
         &mut self,
         alloc: Global,
         roster: &Roster,
-        sets: &[Vec<u32>],
         first: u32,
         value: &Value,
     ) -> Result<(), ReadFault>
-        requires sets { map (λ s. s.items) sets.now ≡ by_prefecture roster.now }
-        ensures entry { Grows (first_of (group_entry_checks roster.now first self.old.names (view value.now))) (with_group roster.now self.old (view value.now)) self.new result }
+        ensures entry { AddsGroup roster.now first self.old (view value.now) self.new result }
         ensures few { OnOk result (first + length self.old.names < 5_000) }
     {
         let entry = match read_group(alloc, roster, first, &self.names, value) {
             Ok(entry) => entry,
             Err(fault) => return Err(fault),
         };
-        let count = roster.hospitals().len();
         let Ok(members) = union(
             alloc,
-            count,
+            roster,
             &entry.elements.hospitals,
-            sets,
             &entry.elements.prefectures,
             &self.members,
             &entry.elements.groups,
@@ -202,15 +197,12 @@ impl Groups {
         values: &[Value],
     ) -> Result<Groups, ReadFault>
         requires { first ≤ 5_000 }
-        ensures entries { Reads (first_of (checks_of (group_checks_after roster.now first) (map view values.now))) (groups_of roster.now (map view values.now)) result }
+        ensures entries { ReadsGroups roster.now first (map view values.now) result }
         ensures few { OnOk result (first + length values.now ≤ 5_000) }
     {
-        let Ok(sets) = by_prefecture(alloc, roster) else {
-            return Err(ReadFault::NoMemory);
-        };
         let mut groups = Groups::new(alloc);
         for i in 0..values.len() {
-            match groups.add(alloc, roster, &sets, first, &values[i]) {
+            match groups.add(alloc, roster, first, &values[i]) {
                 Ok(()) => {}
                 Err(fault) => return Err(fault),
             }

@@ -2,9 +2,7 @@
 
 ghost use Rattle.std.specs.Prelude.{◌≡◌, ◌≤◌, ◌<◌, List, [], None, Some, map, get_or, length, option_map, replicate, IfOk};
 ghost use Rattle.toml.specs.View.{view};
-ghost use Rattle.rm_base.specs.Checks.{first_of, checks_of};
-ghost use Rattle.rm_base.specs.Reading.{Reads};
-ghost use Rattle.rm_policy.specs.Hospitals.{hospital_entry_checks_after, hospital_steps_of};
+ghost use Rattle.rm_policy.specs.GroupAnswers.{ReadsHospitals};
 
 use crate::hospitals::read_hospital;
 use rm_base::{NoMemory, ReadFault};
@@ -80,7 +78,7 @@ impl HospitalSteps {
         first: u32,
         values: &[Value],
     ) -> Result<HospitalSteps, ReadFault>
-        ensures { Reads (first_of (checks_of (hospital_entry_checks_after roster.now first) (map view values.now))) (hospital_steps_of roster.now (map view values.now)) result }
+        ensures { ReadsHospitals roster.now first (map view values.now) result }
     {
         let Ok(mut items) = no_items(alloc, roster.hospitals().len()) else {
             return Err(ReadFault::NoMemory);

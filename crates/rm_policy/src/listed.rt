@@ -6,7 +6,8 @@ ghost use Rattle.rm_policy.specs.Policy.{listed_pairs, pair_numbered};
 ghost use Rattle.rm_policy.specs.Values.{pair};
 
 use crate::values::pair;
-use rm_base::{ListedPair, NoMemory};
+use rm_base::NoMemory;
+use rm_market::ListedPair;
 use rm_roster::Roster;
 use std::alloc::Global;
 use toml::Value;

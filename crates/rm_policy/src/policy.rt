@@ -1,11 +1,12 @@
 // A policy.
 
-ghost use Rattle.std.specs.Prelude.{◌≡◌, ◌<◌, ◌≤◌, ◌+◌, ◌++◌, List, Some, None, IfOk, OnOk, map, get_or, length, slice_get, option_map};
+ghost use Rattle.std.specs.Prelude.{◌≡◌, ◌<◌, ◌≤◌, ◌+◌, ◌++◌, [], List, Some, None, IfOk, OnOk, map, get_or, length, slice_get, option_map};
 ghost use Rattle.toml.specs.View.{view};
 ghost use Rattle.rm_base.specs.Checks.{first_of};
+ghost use Rattle.rm_names.specs.Names.{place_of};
 ghost use Rattle.rm_base.specs.Reading.{Reads, Stops};
 ghost use Rattle.rm_policy.specs.Groups.{groups_joined, no_groups};
-ghost use Rattle.rm_policy.specs.Policy.{plain, policy_checks, policy_of, IsPolicy, ReadsDocument, ReadsEntries, ReadsPolicy};
+ghost use Rattle.rm_policy.specs.Policy.{entry_names, plain, policy_checks, policy_of, IsPolicy, ReadsDocument, ReadsPolicy, ReadsTopEntries};
 ghost use Rattle.rm_policy.specs.Values.{document_of};
 
 use crate::entries::refused;
@@ -15,7 +16,9 @@ use crate::listed::read_listed;
 use crate::top::{Top, read_top};
 use crate::{Kind, PolicyFault, Ties};
 use rm_base::codes::NOT_TOML;
-use rm_base::{ListedPair, Names, NoMemory, ReadFault};
+use rm_base::{NoMemory, ReadFault};
+use rm_market::ListedPair;
+use rm_names::Names;
 use rm_roster::Roster;
 use rm_steps::Steps;
 use std::alloc::Global;
@@ -32,18 +35,17 @@ struct AllGroups {
 }
 
 impl Model for AllGroups {
-    ghost use Rattle.rm_policy.specs.Groups.{GroupsData};
-    ghost use Rattle.std.specs.Prelude.{map, ◌++◌};
+    ghost use Rattle.rm_policy.specs.Groups.{PolicyGroups, groups_kept};
 
-    ghost Value = { GroupsData };
+    ghost Value = { PolicyGroups };
 
-    ghost view = { λ g. record { names = g.prefecture_names ++ g.group_names; members = map (λ m. m.items) g.members.items; steps = g.steps.items } };
+    ghost view = { λ g. groups_kept g.prefecture_names g.group_names g.members.items g.steps.items };
 }
 
 impl AllGroups {
     // No group.
     fn none(alloc: Global) -> AllGroups
-        ensures { result ≡ no_groups }
+        ensures { result ≡ record { entries = []; groups = no_groups } }
     {
         AllGroups {
             prefecture_names: Names::new(alloc),
@@ -55,7 +57,7 @@ impl AllGroups {
 
     // Groups, and then groups.
     fn join(mut prefectures: Groups, mut groups: Groups) -> Result<AllGroups, NoMemory>
-        ensures { IfOk result (λ all. all ≡ groups_joined prefectures groups) }
+        ensures { IfOk result (λ all. all ≡ record { entries = prefectures.names; groups = groups_joined prefectures groups }) }
     {
         prefectures.members.append(&mut groups.members)?;
         prefectures.steps.append(&mut groups.steps)?;
@@ -69,8 +71,8 @@ impl AllGroups {
 
     // The name of a group.
     fn name(&self, g: u32) -> &str
-        requires { g < length self.now.names }
-        ensures { slice_get self.now.names g ≡ Some result.now }
+        requires { g < length self.now.groups.names }
+        ensures { slice_get self.now.groups.names g ≡ Some result.now }
     {
         let count = self.prefecture_names.len();
         if g < count {
@@ -78,6 +80,13 @@ impl AllGroups {
         } else {
             self.group_names.name(g - count)
         }
+    }
+
+    // The number of the prefecture entry of this name.
+    fn find_entry(&self, name: &str) -> Option<u32>
+        ensures { result ≡ place_of self.now.entries name.now }
+    {
+        self.prefecture_names.find(name)
     }
 }
 
@@ -93,15 +102,15 @@ pub struct Policy {
 }
 
 impl Model for Policy {
-    ghost use Rattle.rm_policy.specs.Policy.{PolicyData, IsPolicy};
+    ghost use Rattle.rm_policy.specs.Policy.{IsPolicyKept, PolicyData, policy_with};
     ghost use Rattle.rm_policy.specs.EntryAnswers.{items_of};
     ghost use Rattle.std.specs.Prelude.{map};
 
     ghost Value = { PolicyData };
 
-    ghost view = { λ p. record { kind = p.kind; ties = p.ties; listed = p.listed.items; groups = p.groups; orders = map items_of p.orders.items; hospital_steps = p.hospital_steps } };
+    ghost view = { λ p. policy_with p.kind p.ties p.listed.items p.groups (map items_of p.orders.items) p.hospital_steps };
 
-    ghost invariant = { λ p. IsPolicy (record { kind = p.kind; ties = p.ties; listed = p.listed.items; groups = p.groups; orders = map items_of p.orders.items; hospital_steps = p.hospital_steps }) };
+    ghost invariant = { λ p. IsPolicyKept p.groups.entries (policy_with p.kind p.ties p.listed.items p.groups (map items_of p.orders.items) p.hospital_steps) };
 }
 
 // The document of a text.
@@ -129,7 +138,7 @@ struct Entries {
 
 // The entries below a top, or their first refusal.
 fn read_entries(alloc: Global, top: &Top<'_>, roster: &Roster) -> Result<Entries, ReadFault>
-    ensures entries { ReadsEntries roster.now top.now.kind (map view top.now.prefectures.now) (map view top.now.groups.now) (map view top.now.hospitals.now) result }
+    ensures entries { ReadsTopEntries roster.now top.now result }
     ensures few { OnOk result (length top.now.prefectures.now + length top.now.groups.now ≤ 5_000) }
 {
     let prefectures = match Prefectures::read(alloc, roster, top.kind, top.prefectures) {
@@ -231,6 +240,13 @@ impl Policy {
         ensures policy { IsPolicy self.entry.now }
     {
         &self.groups.members
+    }
+
+    /// The prefecture entry of the prefecture of this name. None exactly where the prefecture has no entry.
+    pub fn entry(&self, prefecture: &str) -> Option<u32>
+        ensures { result ≡ place_of (entry_names self.now) prefecture.now }
+    {
+        self.groups.find_entry(prefecture)
     }
 
     /// The steps of group g.

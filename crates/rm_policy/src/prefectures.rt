@@ -1,26 +1,27 @@
 // The entries of prefectures.
 
-ghost use Rattle.std.specs.Prelude.{◌≡◌, ◌≤◌, ◌<◌, ◌&&◌, Option, List, Some, None, IfOk, map, length, nat_lt, option_map, if◌then◌else◌};
+ghost use Rattle.std.specs.Prelude.{◌≡◌, ◌≤◌, ◌<◌, ℕ, None, IfOk, map, length};
 ghost use Rattle.toml.specs.View.{view};
-ghost use Rattle.rm_base.specs.Checks.{first_of};
-ghost use Rattle.rm_base.specs.Names.{place_of};
+ghost use Rattle.rm_names.specs.Names.{place_of};
+ghost use Rattle.rm_roster.specs.Roster.{hospitals_in};
+ghost use Rattle.rm_sets.specs.Sets.{IsIn};
 ghost use Rattle.rm_policy.specs.Entries.{name_of_entry};
-ghost use Rattle.rm_policy.specs.Prefectures.{hospitals_in, order_checks, prefecture_name_checks, targets_of};
-ghost use Rattle.rm_policy.specs.Top.{is_flexible};
-ghost use Rattle.rm_policy.specs.EntryAnswers.{FindsPrefecture, ReadsPrefectureOrder, ReadsPrefecture, ReadsPrefectureShape};
+ghost use Rattle.rm_policy.specs.Prefectures.{sum_of_targets};
+ghost use Rattle.rm_policy.specs.EntryAnswers.{targets_above, FindsPrefecture, ReadsPrefectureOrder, ReadsPrefecture, ReadsPrefectureShape};
 
 use crate::Kind;
 use crate::elements::read_order;
 use crate::entries::{bad_value, cap_at, has_only, optional_at, refused, text_at};
 use crate::keys::Key;
-use crate::sets::{hospitals_in, targets_of};
+use crate::sets::sum_of_targets;
 use crate::top::is_flexible;
 use crate::values::Shape;
 use rm_base::codes::{
     GROUPS_LIMIT, MOST_GROUPS, REPEATED_ENTRY, TARGETS_ABOVE_CAP, TOO_MANY_ITEMS,
     UNKNOWN_ENTRY_NAME, UNKNOWN_KEY,
 };
-use rm_base::{Names, ReadFault, Refusal};
+use rm_base::{ReadFault, Refusal};
+use rm_names::Names;
 use rm_roster::Roster;
 use std::alloc::Global;
 use toml::Value;
@@ -101,14 +102,16 @@ fn optional_order(
     }
 }
 
-// The sum of the targets, where the kind is flexible and the cap is less.
-fn targets_above(roster: &Roster, kind: Kind, p: u32, cap: u32) -> Option<u64>
-    ensures { result ≡ (if is_flexible kind && nat_lt cap (targets_of roster.now p) then Some (targets_of roster.now p) else None) }
+// The sum of the targets of hospitals, where the kind is flexible and the cap is less.
+fn targets_above(roster: &Roster, kind: Kind, hospitals: &[u32], cap: u32) -> Option<u64>
+    requires within { (h : ℕ) → IsIn h hospitals.now → h < length roster.now.hospitals }
+    requires few { length hospitals.now ≤ 10_000 }
+    ensures { result ≡ targets_above kind cap (sum_of_targets roster.now hospitals.now) }
 {
     if !is_flexible(kind) {
         return None;
     }
-    let targets = targets_of(roster, p);
+    let targets = sum_of_targets(roster, hospitals);
     if (cap as u64) < targets {
         return Some(targets);
     }
@@ -136,14 +139,14 @@ pub fn read_prefecture<'a>(
         Ok(p) => p,
         Err(refusal) => return Err(ReadFault::Refused(refusal)),
     };
-    let Ok(members) = hospitals_in(alloc, roster, p) else {
+    let Ok(members) = roster.hospitals_in(p).to_vec(alloc) else {
         return Err(ReadFault::NoMemory);
     };
     let order = match optional_order(alloc, roster, p, &members, shape.order, item) {
         Ok(order) => order,
         Err(fault) => return Err(fault),
     };
-    if let Some(targets) = targets_above(roster, kind, p, shape.cap) {
+    if let Some(targets) = targets_above(roster, kind, &members, shape.cap) {
         return Err(ReadFault::Refused(refused(TARGETS_ABOVE_CAP, item, targets)));
     }
     Ok(PrefectureEntry {

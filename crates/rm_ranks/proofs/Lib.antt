@@ -1,4 +1,1 @@
-pub mod Indexes
-pub mod Parts
-pub mod Searches
 pub mod Building

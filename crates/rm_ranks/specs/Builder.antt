@@ -1,9 +1,8 @@
 -- What building lists answers.
-use Rattle.std.specs.Prelude.{◌≡◌, ℕ, ◌≤◌, ◌<◌, ◌^◌, ◌==◌, Bool, true, false, List, [], ◌∷◌, length, get_or, Option, Some, None, IsSome, Result, Ok, Err, All}
-use Rattle.std.specs.List.{IsDistinct, list_any, sum_by}
-use Rattle.rm_ranks.specs.Built.{ListsTold, last_list, list_at, begun, with_items}
-use Rattle.rm_ranks.specs.Packed.{part, lists_of}
-use Rattle.rm_ranks.specs.declared.packed.Span.{Span}
+use Rattle.std.specs.Prelude.{◌≡◌, ℕ, ◌≤◌, ◌<◌, ◌^◌, ◌==◌, Bool, true, false, List, [], ◌∷◌, length, drop, get_or, Option, Some, None, IsSome, Result, Ok, Err, All}
+use Rattle.std.specs.List.{IsDistinct, list_any}
+use Rattle.rm_lists.specs.Grouping.{values_of_key}
+use Rattle.rm_ranks.specs.Built.{ListsTold, last_list, begun, with_items}
 use Rattle.rm_ranks.specs.declared.builder.ListFault.{ListFault}
 use Rattle.rm_ranks.specs.declared.builder.ListFault.TheVariants as fault
 
@@ -23,29 +22,20 @@ Pushes old item new (Err fault.TooMany) = (list_any (λ x. x == item) (last_list
 Pushes old item new (Err fault.NoMemory) = new ≡ old
 Pushes old item new (Err (fault.RowRepeated former)) = ⊥
 
--- a list within the buffer, of distinct items
-pub record IsBuilt (items : List ℕ) (s : Span) : Type 0 where
-  pub forward : s.start ≤ s.end
-  pub within : s.end ≤ length items
-  pub distinct : IsDistinct ◌==◌ (part items s)
-
--- the list begun last, if any, has a mark, and ends where the buffer ends
-abbrev pub IsLast : List ℕ → List Span → List (Option ℕ) → Option ℕ → Type 0
-IsLast items spans marks None = Unit {0}
-IsLast items spans marks (Some i) = (i < length spans) × ((s : Span) → (get_or spans i s).end ≡ length items) × IsSome (get_or marks i None)
-
--- of each item whether the list begun last has it
-abbrev pub AreSeen : List ℕ → List Span → Option ℕ → List Bool → Type 0
-AreSeen items spans at seen = (x : ℕ) → list_any (λ y. y == x) (list_at (lists_of items spans) at) ≡ get_or seen x false
+-- the list begun last, if any, has a mark, and its items are those from its start on
+abbrev pub IsLast : List ℕ → List ℕ → List (Option ℕ) → Option ℕ → ℕ → Type 0
+IsLast items keys marks None start = drop start items ≡ []
+IsLast items keys marks (Some i) start = (i < length marks) × IsSome (get_or marks i None) × (values_of_key i keys items ≡ drop start items)
 
 -- what the builder keeps
-pub record AreBuilt (items : List ℕ) (spans : List Span) (marks : List (Option ℕ)) (seen : List Bool) (at : Option ℕ) (limit : ℕ) : Type 0 where
-  pub few : length spans < 2 ^ 32
-  pub marked : length marks ≡ length spans
-  pub each : All (IsBuilt items) spans
-  pub unbegun : (i : ℕ) → get_or marks i None ≡ None → get_or (lists_of items spans) i [] ≡ []
-  pub ends : IsLast items spans marks at
-  pub total : sum_by length (lists_of items spans) ≡ length items
+pub record AreBuilt (items keys : List ℕ) (marks : List (Option ℕ)) (seen : List Bool) (at : Option ℕ) (start limit : ℕ) : Type 0 where
+  pub few : length marks < 2 ^ 32
+  pub beside : length items ≡ length keys
+  pub known : All (λ k. k < length marks) keys
+  pub unbegun : (i : ℕ) → get_or marks i None ≡ None → values_of_key i keys items ≡ []
+  pub distinct : (i : ℕ) → IsDistinct ◌==◌ (values_of_key i keys items)
+  pub last : IsLast items keys marks at start
+  pub begun : start ≤ length items
   pub room : length items ≤ limit
   pub below : All (λ x. x < length seen) items
-  pub noted : AreSeen items spans at seen
+  pub noted : (x : ℕ) → list_any (λ y. y == x) (drop start items) ≡ get_or seen x false

@@ -1,12 +1,12 @@
 // Lists that are built item by item.
 
-ghost use Rattle.std.specs.Prelude.{◌≡◌, ◌<◌, ◌≤◌, ◌==◌, [], ℕ, false, length, get_or, replicate, All, None, IsSome, IfOk, IfSome, IsTrue, IsFalse};
+ghost use Rattle.std.specs.Prelude.{◌≡◌, ◌<◌, ◌≤◌, ◌==◌, [], ℕ, false, length, get_or, replicate, All, None, IsSome, IfOk, IsTrue, IsFalse};
 ghost use Rattle.std.specs.List.{list_any, sum_by};
 ghost use Rattle.rm_ranks.specs.Built.{ListsTold};
-ghost use Rattle.rm_ranks.specs.Builder.{AreSeen, Begins, IsBuilt, Pushes};
+ghost use Rattle.rm_ranks.specs.Builder.{Begins, Pushes};
 
 use crate::lists::{Lists, NoMemory};
-use crate::packed::{Packed, Span};
+use rm_lists::deal;
 use std::alloc::Global;
 use std::marker::Model;
 
@@ -34,59 +34,55 @@ fn forget_items(seen: &mut Vec<bool>, list: &[u32])
     }
 }
 
-// No item is seen any more. Those that are seen are in the list begun last, which is `at`.
-fn forget_last(seen: &mut Vec<bool>, items: &[u32], spans: &[Span], at: Option<u32>)
-    requires seen { AreSeen items.now spans.now at seen.old.items }
-    requires below { All (λ x. x < length seen.old.items) items.now }
-    requires each { All (IsBuilt items.now) spans.now }
-    requires at { IfSome at (λ i. i < length spans.now) }
-    ensures count { length seen.new.items ≡ length seen.old.items }
-    ensures none { (x : ℕ) → IsFalse (get_or seen.new.items x false) }
-{
-    let Some(i) = at else {
-        return;
-    };
-    let span = spans[i as usize];
-    forget_items(seen, &items[span.start..span.end]);
-}
-
 /// Lists of distinct numbers that are built item by item, one list after the other in any order. A mark, such as the
 /// row of a file, is kept for each list that was begun. After a fault the builder is as before.
 #[derive(Drop)]
 pub struct ListsBuilder {
     items: Vec<u32>,
-    spans: Vec<Span>,
+    // Of each item the list that it stands in.
+    keys: Vec<u32>,
     marks: Vec<Option<u64>>,
-    // Of each item whether the list begun last has it.
+    // Of each number whether the list begun last has it.
     seen: Vec<bool>,
     at: Option<u32>,
+    // How many items there were when that list was begun.
+    start: usize,
     limit: u64,
 }
 
 impl Model for ListsBuilder {
     ghost use Rattle.std.specs.Prelude.{length};
+    ghost use Rattle.rm_lists.specs.Grouping.{dealt};
     ghost use Rattle.rm_ranks.specs.Built.{ListsTold};
-    ghost use Rattle.rm_ranks.specs.Packed.{lists_of};
     ghost use Rattle.rm_ranks.specs.Builder.{AreBuilt};
 
     ghost Value = { ListsTold };
 
-    ghost view = { λ b. record { lists = lists_of b.items.items b.spans.items; marks = b.marks.items; at = b.at; held = length b.items.items; items = length b.seen.items; limit = b.limit } };
+    ghost view = { λ b. record {
+      lists = dealt (length b.marks.items) b.keys.items b.items.items;
+      marks = b.marks.items;
+      at = b.at;
+      held = length b.items.items;
+      items = length b.seen.items;
+      limit = b.limit;
+    } };
 
-    ghost invariant = { λ b. AreBuilt b.items.items b.spans.items b.marks.items b.seen.items b.at b.limit };
+    ghost invariant = { λ b. AreBuilt b.items.items b.keys.items b.marks.items b.seen.items b.at b.start b.limit };
 }
 
 impl ListsBuilder {
     /// So many empty lists, none of which is begun. Each item will be below `items`, and all lists together may hold `limit` items.
     pub fn new(alloc: Global, lists: u32, items: u32, limit: u64) -> Result<ListsBuilder, NoMemory>
-        ensures { IfOk result (λ b. b ≡ record { lists = replicate lists []; marks = replicate lists None; at = None; held = 0; items = items; limit = limit }) }
+        ensures { IfOk result (λ b. b ≡
+            record { lists = replicate lists []; marks = replicate lists None; at = None; held = 0; items = items; limit = limit }) }
     {
         Ok(ListsBuilder {
             items: Vec::new(alloc),
-            spans: vec![in alloc; Span { start: 0, end: 0 }; lists as usize]?,
+            keys: Vec::new(alloc),
             marks: vec![in alloc; None; lists as usize]?,
             seen: vec![in alloc; false; items as usize]?,
             at: None,
+            start: 0,
             limit,
         })
     }
@@ -101,11 +97,10 @@ impl ListsBuilder {
         if let Some(former) = self.marks[list] {
             return Err(ListFault::RowRepeated(former));
         }
-        forget_last(&mut self.seen, &self.items, &self.spans, self.at);
-        let end = self.items.len();
-        self.spans[list] = Span { start: end, end };
+        forget_items(&mut self.seen, &self.items[self.start..]);
         self.marks[list] = Some(mark);
         self.at = Some(i);
+        self.start = self.items.len();
         Ok(())
     }
 
@@ -125,12 +120,13 @@ impl ListsBuilder {
         if self.items.len() as u64 >= self.limit {
             return Err(ListFault::TooMany);
         }
-        if self.items.push(item).is_err() {
+        if self.keys.push(at).is_err() {
             return Err(ListFault::NoMemory);
         }
-        let list = at as usize;
-        let end = self.items.len();
-        self.spans[list].end = end;
+        if self.items.push(item).is_err() {
+            self.keys.truncate(self.items.len());
+            return Err(ListFault::NoMemory);
+        }
         self.seen[item as usize] = true;
         Ok(())
     }
@@ -141,10 +137,8 @@ impl ListsBuilder {
         ensures below { All (All (λ x. x < self.items)) self.lists }
         ensures held { (sum_by length self.lists ≡ self.held) × (self.held ≤ self.limit) }
     {
-        let mut packed = Packed::with_capacity(alloc, self.spans.len(), self.items.len())?;
-        for span in &self.spans {
-            packed.push(&self.items[span.start..span.end])?;
-        }
-        Ok(Lists { packed })
+        Ok(Lists {
+            lists: deal(alloc, &self.keys, self.marks.len() as u32, &self.items)?,
+        })
     }
 }

@@ -1,9 +1,8 @@
-//! Lists of numbers in one buffer, as rank lists and lists of choices, with the place of each item at hand.
+//! Lists of distinct numbers in one buffer, as rank lists and lists of choices.
 #![tactic(auto)]
 
 mod builder;
 mod lists;
-mod packed;
 
 pub use builder::{ListFault, ListsBuilder};
 pub use lists::{Lists, NoMemory};

@@ -1,31 +1,28 @@
 // Finished lists.
 
-ghost use Rattle.std.specs.Prelude.{◌≡◌, ◌<◌, ◌==◌, ℕ, List, [], ◌∷◌, ◌++◌, length, get_or, set, All, IfOk, OnOk, OnErr};
+ghost use Rattle.std.specs.Prelude.{◌≡◌, ◌<◌, ◌==◌, [], ◌∷◌, ◌++◌, length, get_or, set, All, IfOk, IfSome, OnOk, OnErr};
 ghost use Rattle.std.specs.List.{IsDistinct, position};
-ghost use Rattle.rm_ranks.specs.Packed.{IsIndexOf};
 
-use crate::packed::{Packed, item_at};
-use std::alloc::{AllocError, Global};
+use rm_lists::Lists as AnyLists;
+pub use rm_lists::NoMemory;
+use std::alloc::Global;
 use std::marker::Model;
-
-/// Want of memory.
-pub type NoMemory = AllocError;
 
 /// Lists of distinct numbers, all in one buffer. Lists and places count from 0.
 #[derive(Drop)]
 pub struct Lists {
-    pub(crate) packed: Packed,
+    pub(crate) lists: AnyLists<u32>,
 }
 
 impl Model for Lists {
-    ghost use Rattle.std.specs.Prelude.{List, ℕ};
-    ghost use Rattle.rm_ranks.specs.Packed.{lists_of, ArePacked};
+    ghost use Rattle.std.specs.Prelude.{List, ℕ, All, ◌==◌};
+    ghost use Rattle.std.specs.List.{IsDistinct};
 
     ghost Value = { List (List ℕ) };
 
-    ghost view = { λ l. lists_of l.packed.items.items l.packed.spans.items };
+    ghost view = { λ l. l.lists };
 
-    ghost invariant = { λ l. ArePacked l.packed.items.items l.packed.places.items l.packed.spans.items };
+    ghost invariant = { λ l. All (IsDistinct ◌==◌) l.lists };
 }
 
 impl Lists {
@@ -34,7 +31,7 @@ impl Lists {
         ensures { IfOk result (λ lists. lists ≡ []) }
     {
         Ok(Lists {
-            packed: Packed::with_capacity(alloc, lists as usize, items)?,
+            lists: AnyLists::with_capacity(alloc, lists, items)?,
         })
     }
 
@@ -45,7 +42,7 @@ impl Lists {
         ensures lists { OnOk result (self.new ≡ self.old ++ list.now ∷ []) }
         ensures unchanged { OnErr result (self.new ≡ self.old) }
     {
-        self.packed.push(list)
+        self.lists.push(list)
     }
 
     /// List i, lent from the buffer.
@@ -53,8 +50,7 @@ impl Lists {
         requires { i < length self.now }
         ensures { result.now ≡ get_or self.now i [] }
     {
-        let span = self.packed.spans[i as usize];
-        &self.packed.items[span.start..span.end]
+        self.lists.list(i)
     }
 
     /// The place of item j in list i; None exactly where it isn't there.
@@ -62,12 +58,10 @@ impl Lists {
         requires { i < length self.now }
         ensures { result ≡ position (λ x. x == j) (get_or self.now i []) }
     {
-        let span = self.packed.spans[i as usize];
-        find_place(
-            &self.packed.items[span.start..span.end],
-            &self.packed.places[span.start..span.end],
-            j,
-        )
+        match place_of(self.lists.list(i), j) {
+            Some(place) => Some(place as u32),
+            None => None,
+        }
     }
 
     /// The number of lists.
@@ -75,7 +69,7 @@ impl Lists {
         ensures len { result ≡ length self.now }
         ensures distinct { All (IsDistinct ◌==◌) self.now }
     {
-        self.packed.spans.len() as u32
+        self.lists.len()
     }
 
     /// The same lists.
@@ -83,7 +77,7 @@ impl Lists {
         ensures { IfOk result (λ lists. lists ≡ self.now) }
     {
         Ok(Lists {
-            packed: self.packed.copy(alloc)?,
+            lists: self.lists.copy(alloc)?,
         })
     }
 
@@ -93,26 +87,16 @@ impl Lists {
         requires distinct { IsDistinct ◌==◌ list.now }
         ensures { IfOk result (λ lists. lists ≡ set self.now i list.now) }
     {
-        let mut packed = Packed::new(alloc);
-        for k in 0..self.len() {
-            if k == i {
-                packed.push(list)?;
-            } else {
-                packed.push(self.list(k))?;
-            }
-        }
-        Ok(Lists { packed })
+        Ok(Lists {
+            lists: self.lists.with(alloc, i, list)?,
+        })
     }
 }
 
-// The place of an item in a list, by the index of the list.
-fn find_place(list: &[u32], places: &[u32], item: u32) -> Option<u32>
-    requires index { IsIndexOf list.now places.now }
-    requires distinct { IsDistinct ◌==◌ list.now }
-    ensures { result ≡ position (λ x. x == item) list.now }
+// The place of an item in a list.
+fn place_of(list: &[u32], item: u32) -> Option<usize>
+    ensures place { result ≡ position (λ x. x == item) list.now }
+    ensures within { IfSome result (λ place. place < length list.now) }
 {
-    match places.binary_search_by_key(&item, |place| item_at(list, *place)) {
-        Ok(at) => Some(places[at]),
-        Err(_) => None,
-    }
+    list.iter().position(|x| *x == item)
 }

@@ -185,7 +185,7 @@ pub fn certificate_text(alloc: Global, case: &Case, rows: &[CertRow]) -> Result<
     let mut cells = no_cells(alloc);
     for row in rows {
         print_cells(&mut cells, case, row)?;
-        write_printed(&mut writer, &*case, row, &cells)?;
+        write_printed(&mut writer, case, row, &cells)?;
     }
     let text = close(writer)?;
     Ok(text)

@@ -1,4 +1,4 @@
-//! The texts that the commands write about a case. Each call refuses for want of memory alone.
+//! The texts that the commands write about a case. `NoMemory` is want of memory.
 #![tactic(auto)]
 
 mod certificate;

@@ -4,8 +4,8 @@ ghost use Rattle.std.specs.Prelude.{◌≡◌, ◌<◌, length, IfOk};
 ghost use Rattle.rm_report.specs.Texts.{AreHospitals, place_name, placement_text};
 
 use crate::writing::{close, open_writer, write_row};
-use rm_base::{NoMemory, Places};
-use rm_case::Case;
+use rm_base::NoMemory;
+use rm_case::{Case, Places};
 use std::alloc::Global;
 
 // A guess at the bytes of a row, by which the text's room is taken at once.

@@ -8,11 +8,11 @@ use Rattle.std.proofs.lemmas.List.Sums.{sum_by_push, fold_push}
 use Rattle.std.proofs.lemmas.Option.{slice_get_within}
 use Rattle.rm_base.specs.Checks.{first_of, checks_of}
 use Rattle.rm_base.specs.Codes.{refuse}
-use Rattle.rm_base.specs.Names.{AreDistinct, place_of}
+use Rattle.rm_names.specs.Names.{AreDistinct, place_of}
 use Rattle.rm_base.specs.Text.{Text}
 use Rattle.rm_base.specs.declared.codes.TheConstants.{HOSPITALS_FILE, REPEATED_NAME, ABOVE_LIMIT, TARGET_ABOVE_CAPACITY, TOO_MANY, GREATEST_CAPACITY, MOST_HOSPITALS, HOSPITALS_LIMIT, MOST_SEATS, SEATS_LIMIT}
 use Rattle.rm_base.proofs.CheckLemmas.{check-none, mapped-none, none-each, passed}
-use Rattle.rm_base.proofs.NameLemmas.{distinct-more}
+use Rattle.rm_names.proofs.NameLemmas.{distinct-more}
 use Rattle.rm_table.specs.Rows.{Row}
 use Rattle.rm_roster.specs.Cells.{name_in}
 use Rattle.rm_roster.specs.Hospitals.{capacity_in, each_once, hospital_checks, hospital_checks_after, prefecture_in, target_in, with_text}

@@ -11,12 +11,12 @@ use Rattle.std.proofs.lemmas.Map.Keys.{IsDistinct-push}
 use Rattle.rm_base.specs.Lists.{IsListBelow}
 use Rattle.rm_base.specs.Checks.{check, first_of, checks_of}
 use Rattle.rm_base.specs.Codes.{refuse}
-use Rattle.rm_base.specs.Names.{AreDistinct, is_name, place_of}
-use Rattle.rm_base.specs.Text.{Text}
+use Rattle.rm_names.specs.Names.{AreDistinct, place_of}
+use Rattle.rm_base.specs.Text.{Text, is_name}
 use Rattle.rm_base.specs.declared.Refusal.{Refusal}
 use Rattle.rm_base.specs.declared.codes.TheConstants.{DOCTORS_FILE, RANKS_FILE, BAD_NAME, REPEATED_NAME, REPEATED_CHOICE, REPEATED_ROW, TOO_MANY, MOST_DOCTORS, MOST_CHOICES, DOCTORS_LIMIT, CHOICES_LIMIT, RANKED_LIMIT}
 use Rattle.rm_base.proofs.CheckLemmas.{check-none, mapped-none, none-each, none-parts, passed}
-use Rattle.rm_base.proofs.NameLemmas.{distinct-more}
+use Rattle.rm_names.proofs.NameLemmas.{distinct-more}
 use Rattle.rm_table.specs.Rows.{Row}
 use Rattle.rm_roster.specs.Cells.{name_in}
 use Rattle.rm_roster.specs.Items.{cell_checks_after, item_of, items_in, list_checks, list_in, number_checks}

@@ -10,5 +10,4 @@ mod NumberLemmas
 mod NumberedTexts
 pub mod OnLiterals
 mod RankRows
-mod RowNumbers
 mod Small

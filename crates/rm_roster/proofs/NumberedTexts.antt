@@ -3,10 +3,10 @@ use Rattle.std.proofs.Common.{◌≡◌, ◌+◌, ◌<◌, ◌≤◌, ℕ, List,
 use Rattle.std.specs.Str.{bytes_eq}
 use Rattle.std.proofs.lemmas.List.Quantifiers.{position-Some}
 use Rattle.std.proofs.lemmas.List.Elements.{All-nil, All-cons}
-use Rattle.rm_base.proofs.NameLemmas.{place-front, place-last, distinct-more}
-use Rattle.rm_base.specs.Names.{AreDistinct}
+use Rattle.rm_names.proofs.NameLemmas.{place-front, place-last, distinct-more}
+use Rattle.rm_names.specs.Names.{AreDistinct}
 use Rattle.rm_base.specs.Text.{Text}
-use Rattle.rm_base.specs.Names.{place_of}
+use Rattle.rm_names.specs.Names.{place_of}
 use Rattle.rm_roster.specs.Hospitals.{with_text, number_in}
 
 longer : (texts : List Text) (more : Text) → length (texts ++ more ∷ []) ≡ length texts + 1

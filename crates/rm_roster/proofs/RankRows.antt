@@ -10,10 +10,10 @@ use Rattle.std.proofs.lemmas.List.Elements.{filter_map-append}
 use Rattle.std.proofs.lemmas.List.Sums.{sum_by_push}
 use Rattle.rm_base.specs.Checks.{first_of, checks_of}
 use Rattle.rm_base.specs.Text.{Text}
-use Rattle.rm_base.specs.Names.{place_of}
+use Rattle.rm_names.specs.Names.{place_of}
 use Rattle.rm_base.specs.declared.Refusal.{Refusal}
 use Rattle.rm_base.proofs.CheckLemmas.{AreThrough, through-start, through-more, through-stop, through-end}
-use Rattle.rm_base.proofs.FirstPlaces.{AreFirst, first-none, first-more}
+use Rattle.rm_names.proofs.FirstPlaces.{AreFirst, first-none, first-more}
 use Rattle.rm_table.specs.Rows.{Row}
 use Rattle.rm_roster.proofs.NumberedTexts.{place-within}
 use Rattle.rm_roster.specs.Cells.{data_rows, name_in}

@@ -3,8 +3,8 @@ use Rattle.std.specs.Prelude.{ℕ, ◌+◌, not, nat_lt, List, [], ◌∷◌, ma
 use Rattle.std.specs.List.{sum_by}
 use Rattle.rm_base.specs.Checks.{check, checks_of}
 use Rattle.rm_base.specs.Codes.{refuse}
-use Rattle.rm_base.specs.Names.{is_name, place_of}
-use Rattle.rm_base.specs.Text.{Text}
+use Rattle.rm_names.specs.Names.{place_of}
+use Rattle.rm_base.specs.Text.{Text, is_name}
 use Rattle.rm_base.specs.declared.Refusal.{Refusal}
 use Rattle.rm_base.specs.declared.codes.TheConstants.{DOCTORS_FILE, BAD_NAME, REPEATED_NAME, TOO_MANY, MOST_DOCTORS, DOCTORS_LIMIT, CHOICES_LIMIT}
 use Rattle.rm_table.specs.Rows.{Row}

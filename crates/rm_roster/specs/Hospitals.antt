@@ -3,8 +3,8 @@ use Rattle.std.specs.Prelude.{ℕ, ◌+◌, Bool, not, ◌||◌, ◌==◌, nat_l
 use Rattle.std.specs.List.{sum_by}
 use Rattle.rm_base.specs.Checks.{check, checks_of}
 use Rattle.rm_base.specs.Codes.{refuse}
-use Rattle.rm_base.specs.Names.{is_name, place_of}
-use Rattle.rm_base.specs.Text.{Text}
+use Rattle.rm_names.specs.Names.{place_of}
+use Rattle.rm_base.specs.Text.{Text, is_name}
 use Rattle.rm_base.specs.declared.Refusal.{Refusal}
 use Rattle.rm_base.specs.declared.codes.TheConstants.{HOSPITALS_FILE, BAD_NAME, REPEATED_NAME, BAD_NUMBER, ABOVE_LIMIT, TARGET_ABOVE_CAPACITY, TOO_MANY, GREATEST_CAPACITY, MOST_HOSPITALS, HOSPITALS_LIMIT, MOST_SEATS, SEATS_LIMIT}
 use Rattle.rm_table.specs.Rows.{Row}

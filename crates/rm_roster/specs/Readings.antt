@@ -18,7 +18,8 @@ ReadsTarget text None = is_target text ≡ false
 
 -- the hospital of a row that passes its checks, or their first refusal
 abbrev pub ReadsHospital : Option Refusal → Row → Result Hospital Refusal → Type 0
-ReadsHospital first row (Ok h) = (first ≡ None) × (h.name.now ≡ name_in row) × (h.prefecture.now ≡ prefecture_in row) × (h.capacity ≡ capacity_in row) × (h.target ≡ target_in row)
+ReadsHospital first row (Ok h) = (first ≡ None) × (h.name.now ≡ name_in row) × (h.prefecture.now ≡ prefecture_in row)
+    × (h.capacity ≡ capacity_in row) × (h.target ≡ target_in row)
 ReadsHospital first row (Err refusal) = first ≡ Some refusal
 
 -- lists with an item more, if there is one

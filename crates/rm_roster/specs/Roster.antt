@@ -1,8 +1,9 @@
 -- What the files of hospitals, doctors and rank lists say, or their first refusal.
-use Rattle.std.specs.Prelude.{◌≡◌, ℕ, ◌≤◌, ◌<◌, List, ◌++◌, map, length, sum, All, Option}
+use Rattle.std.specs.Prelude.{◌≡◌, ℕ, ◌≤◌, ◌<◌, ◌==◌, List, ◌++◌, map, length, slice_index, sum, All, Option}
 use Rattle.std.specs.List.{sum_by, AllZip}
+use Rattle.rm_sets.specs.Sets.{all_below}
 use Rattle.rm_base.specs.Lists.{IsListBelow}
-use Rattle.rm_base.specs.Names.{AreDistinct}
+use Rattle.rm_names.specs.Names.{AreDistinct}
 use Rattle.rm_base.specs.Text.{Text}
 use Rattle.rm_base.specs.declared.Refusal.{Refusal}
 use Rattle.rm_base.specs.declared.codes.TheConstants.{GREATEST_CAPACITY, MOST_HOSPITALS, MOST_SEATS, MOST_DOCTORS, MOST_CHOICES}
@@ -51,6 +52,10 @@ unfoldable pub roster_of : List Row → List Row → List Row → RosterData
 roster_of hospitals doctors ranks =
     roster_joined (hospitals_of (data_rows hospitals)) (doctors_of (names_in hospitals) (data_rows doctors))
     (ranks_of (names_in hospitals) (names_in doctors) (data_rows ranks))
+
+-- the hospitals of a prefecture, in the order of their rows
+abbrev pub hospitals_in : RosterData → ℕ → List ℕ
+hospitals_in r p = all_below (length r.hospitals) (λ h. slice_index r.prefecture_of h == p)
 
 -- what holds of the roster of files that no check refuses
 pub record IsRoster (r : RosterData) : Type 0 where

@@ -10,23 +10,22 @@ ghost use Rattle.rm_roster.specs.Doctors.{doctor_checks, doctor_checks_after, do
 
 use crate::RosterFault;
 use crate::cells::{refused, wrong_cell};
-use crate::items::{Search, read_items};
+use crate::items::read_items;
 use rm_base::codes::{
     BAD_NAME, CHOICES_LIMIT, DOCTORS_FILE, DOCTORS_LIMIT, MOST_CHOICES, MOST_DOCTORS,
     REPEATED_NAME, TOO_MANY, WRONG_HEADER,
 };
 use rm_base::text::is_name;
-use rm_base::{Added, Names};
+use rm_names::{Added, Names};
 use rm_ranks::{Lists, ListsBuilder};
 use rm_table::{Row, Table};
 use std::alloc::Global;
 use std::marker::Model;
 
-// Reads a row, after the names and the lists of the rows before it. `search` is room for the work.
+// Reads a row, after the names and the lists of the rows before it.
 fn read_doctor(
     row: &Row<'_>,
     hospitals: &Names,
-    search: &mut Search,
     names: &mut Names,
     lists: &mut ListsBuilder,
 ) -> Result<(), RosterFault>
@@ -59,15 +58,7 @@ fn read_doctor(
     let Ok(()) = lists.row(place, i) else {
         unreachable!()
     };
-    read_items(
-        row,
-        DOCTORS_FILE,
-        CHOICES_LIMIT,
-        i,
-        hospitals,
-        search,
-        lists,
-    )
+    read_items(row, DOCTORS_FILE, CHOICES_LIMIT, i, hospitals, lists)
 }
 
 /// The doctors of a file, and the list of each.
@@ -112,7 +103,8 @@ impl Doctors {
 
     // The doctors that the rows after the header tell.
     fn read_rows(alloc: Global, table: &Table, hospitals: &Names) -> Result<Doctors, RosterFault>
-        ensures { Reads (first_of (checks_of (doctor_checks_after hospitals.now) (data_rows table.now))) (doctors_of hospitals.now (data_rows table.now)) result }
+        ensures { Reads (first_of (checks_of (doctor_checks_after hospitals.now) (data_rows table.now)))
+            (doctors_of hospitals.now (data_rows table.now)) result }
     {
         // One list more than the most doctors, so that the row past the limit has its place too.
         let count = table
@@ -126,15 +118,8 @@ impl Doctors {
         let Ok(mut names) = Names::with_capacity(alloc, count) else {
             return Err(RosterFault::NoMemory);
         };
-        let mut search = Search::new(alloc);
         for i in 1..table.rows() {
-            read_doctor(
-                &table.row(i),
-                hospitals,
-                &mut search,
-                &mut names,
-                &mut lists,
-            )?;
+            read_doctor(&table.row(i), hospitals, &mut names, &mut lists)?;
         }
         let Ok(lists) = lists.finish(alloc) else {
             return Err(RosterFault::NoMemory);

@@ -2,7 +2,7 @@
 
 ghost use Rattle.std.specs.Prelude.{◌≡◌, ◌≤◌, ◌+◌, ◌<◌, ℕ, List, [], ◌∷◌, ◌++◌, get_or, length, map, IfOk, Some, None, OnOk};
 ghost use Rattle.rm_base.specs.Checks.{checks_of, first_of};
-ghost use Rattle.rm_base.specs.Names.{place_of};
+ghost use Rattle.rm_names.specs.Names.{place_of};
 ghost use Rattle.rm_base.specs.Reading.{Reads};
 ghost use Rattle.rm_roster.specs.Cells.{data_rows, name_in};
 ghost use Rattle.rm_roster.specs.Hospitals.{hospital_checks, hospital_table_checks, HospitalsData, hospitals_of, with_hospital, with_text, hospital_checks_after};
@@ -16,7 +16,8 @@ use rm_base::codes::{
     WRONG_HEADER,
 };
 use rm_base::text::is_name;
-use rm_base::{Added, Names, NoMemory, Refusal};
+use rm_base::{NoMemory, Refusal};
+use rm_names::{Added, Names};
 use rm_table::{Row, Table};
 use std::alloc::{AllocError, Global};
 use std::marker::Model;
@@ -127,7 +128,13 @@ impl Model for Hospitals {
 
     ghost Value = { HospitalsData };
 
-    ghost view = { λ h. record { names = h.names; prefectures = h.prefectures; prefecture_of = h.prefecture_of.items; capacities = h.capacities.items; targets = h.targets.items } };
+    ghost view = { λ h. record {
+      names = h.names;
+      prefectures = h.prefectures;
+      prefecture_of = h.prefecture_of.items;
+      capacities = h.capacities.items;
+      targets = h.targets.items;
+    } };
 }
 
 impl Hospitals {
@@ -157,6 +164,13 @@ impl Hospitals {
         ensures { result.now ≡ self.entry.now.prefectures }
     {
         &self.prefectures
+    }
+
+    /// Per hospital the number of its prefecture.
+    pub fn by_hospital(&self) -> &[u32]
+        ensures { result.now ≡ self.entry.now.prefecture_of }
+    {
+        &self.prefecture_of
     }
 
     /// The prefecture of hospital h.

@@ -1,11 +1,11 @@
 //! The roster: what the files of hospitals, doctors and rank lists say.
 #![tactic(auto)]
 
-ghost use Rattle.std.specs.Prelude.{◌≡◌, ◌<◌, List, None, get_or, length};
+ghost use Rattle.std.specs.Prelude.{◌≡◌, ◌<◌, List, None, IfOk, get_or, length};
 ghost use Rattle.rm_base.specs.Checks.{first_of};
 ghost use Rattle.rm_base.specs.Reading.{Reads};
 ghost use Rattle.rm_table.specs.Rows.{Row};
-ghost use Rattle.rm_roster.specs.Roster.{IsRoster, roster_checks, roster_of};
+ghost use Rattle.rm_roster.specs.Roster.{IsRoster, hospitals_in, roster_checks, roster_joined, roster_of};
 
 mod cells;
 mod doctors;
@@ -17,7 +17,9 @@ pub use cells::wrong_cell;
 use doctors::Doctors;
 use hospitals::Hospitals;
 use ranks::read_ranks;
-use rm_base::{Names, ReadFault};
+use rm_base::{NoMemory, ReadFault};
+use rm_lists::group;
+use rm_names::Names;
 use rm_ranks::Lists;
 use rm_table::Table;
 use std::alloc::Global;
@@ -33,16 +35,21 @@ pub struct Roster {
     hospitals: Hospitals,
     doctors: Doctors,
     ranks: Lists,
+    // The hospitals of each prefecture.
+    by_prefecture: rm_lists::Lists<u32>,
 }
 
 impl Model for Roster {
+    ghost use Rattle.std.specs.Prelude.{◌≡◌, length};
+    ghost use Rattle.rm_lists.specs.Grouping.{grouped};
     ghost use Rattle.rm_roster.specs.Roster.{RosterData, IsRoster, roster_joined};
 
     ghost Value = { RosterData };
 
     ghost view = { λ r. roster_joined r.hospitals r.doctors r.ranks };
 
-    ghost invariant = { λ r. IsRoster (roster_joined r.hospitals r.doctors r.ranks) };
+    ghost invariant = { λ r. IsRoster (roster_joined r.hospitals r.doctors r.ranks)
+        × (r.by_prefecture ≡ grouped (length r.hospitals.prefectures) r.hospitals.prefecture_of) };
 }
 
 /// The law that the roster of tables which no check refuses is as `IsRoster` says. It does nothing.
@@ -64,10 +71,32 @@ impl Roster {
         let hospitals = Hospitals::read(alloc, hospitals)?;
         let doctors = Doctors::read(alloc, doctors, hospitals.names())?;
         let ranks = read_ranks(alloc, ranks, hospitals.names(), doctors.names())?;
+        match Roster::join(alloc, hospitals, doctors, ranks) {
+            Ok(roster) => Ok(roster),
+            Err(_) => Err(RosterFault::NoMemory),
+        }
+    }
+
+    // The roster of what three files say.
+    fn join(
+        alloc: Global,
+        hospitals: Hospitals,
+        doctors: Doctors,
+        ranks: Lists,
+    ) -> Result<Roster, NoMemory>
+        requires { IsRoster (roster_joined hospitals doctors ranks) }
+        ensures { IfOk result (λ r. r ≡ roster_joined hospitals doctors ranks) }
+    {
+        let by_prefecture = group(
+            alloc,
+            hospitals.by_hospital(),
+            hospitals.prefectures().len(),
+        )?;
         Ok(Roster {
             hospitals,
             doctors,
             ranks,
+            by_prefecture,
         })
     }
 
@@ -101,6 +130,15 @@ impl Roster {
         ensures { result ≡ get_or self.now.prefecture_of h 0 }
     {
         self.hospitals.prefecture_of(h)
+    }
+
+    /// The hospitals of prefecture p, ascending. They are found once, when the roster is read.
+    pub fn hospitals_in(&self, p: u32) -> &[u32]
+        requires { p < length self.now.prefectures }
+        ensures hospitals { result.now ≡ hospitals_in self.entry.now p }
+        ensures roster { IsRoster self.entry.now }
+    {
+        self.by_prefecture.list(p)
     }
 
     /// How many seats hospital h has, 10,000 at most.

@@ -2,7 +2,7 @@
 
 ghost use Rattle.std.specs.Prelude.{◌≡◌, ◌+◌, ◌<◌, ◌≤◌, ℕ, List, [], ◌∷◌, get_or, length, Some, None, IfOk, IfErr, OnOk};
 ghost use Rattle.rm_base.specs.Checks.{first_of, checks_of};
-ghost use Rattle.rm_base.specs.Names.{place_of};
+ghost use Rattle.rm_names.specs.Names.{place_of};
 ghost use Rattle.rm_base.specs.Reading.{Stops, Reads};
 ghost use Rattle.rm_ranks.specs.Built.{ListsTold, begun, with_items};
 ghost use Rattle.rm_roster.specs.Cells.{name_in, data_rows};
@@ -11,22 +11,21 @@ ghost use Rattle.rm_roster.specs.Ranks.{rank_checks, rank_checks_after, rank_tab
 
 use crate::RosterFault;
 use crate::cells::{refused, wrong_cell};
-use crate::items::{Search, read_items};
-use rm_base::Names;
+use crate::items::read_items;
 use rm_base::codes::{
     MOST_CHOICES, RANKED_LIMIT, RANKS_FILE, REPEATED_ROW, UNKNOWN_NAME, WRONG_HEADER,
 };
+use rm_names::Names;
 use rm_ranks::{ListFault, Lists, ListsBuilder};
 use rm_table::{Row, Table};
 use std::alloc::Global;
 
-// Reads row i, after the lists of the rows before it, and answers its hospital. `search` is room for the work.
+// Reads row i, after the lists of the rows before it, and answers its hospital.
 fn read_rank(
     row: &Row<'_>,
     i: u64,
     hospitals: &Names,
     doctors: &Names,
-    search: &mut Search,
     lists: &mut ListsBuilder,
 ) -> Result<u32, RosterFault>
     requires room { length hospitals.now ≤ length lists.old.lists }
@@ -34,8 +33,10 @@ fn read_rank(
     requires items { length doctors.now ≤ lists.old.items }
     requires limit { lists.old.limit ≡ MOST_CHOICES }
     ensures passes { OnOk result (first_of (rank_checks hospitals.now doctors.now i (λ h. get_or lists.old.marks h None) lists.old.held row.now) ≡ None) }
-    ensures lists { IfOk result (λ h. (place_of hospitals.now (name_in row.now) ≡ Some h) × (get_or lists.old.marks h None ≡ None) × (lists.new ≡ with_items (begun lists.old h i) (list_in doctors.now row.now))) }
-    ensures stops { IfErr result (λ e. Stops (first_of (rank_checks hospitals.now doctors.now i (λ h. get_or lists.old.marks h None) lists.old.held row.now)) e) }
+    ensures lists { IfOk result (λ h. (place_of hospitals.now (name_in row.now) ≡ Some h) × (get_or lists.old.marks h None ≡ None)
+        × (lists.new ≡ with_items (begun lists.old h i) (list_in doctors.now row.now))) }
+    ensures stops { IfErr result (λ e. Stops (first_of (rank_checks hospitals.now doctors.now i
+        (λ h. get_or lists.old.marks h None) lists.old.held row.now)) e) }
 {
     let Some(h) = hospitals.find(row.cell(0)) else {
         return Err(refused(UNKNOWN_NAME, RANKS_FILE, i, 1));
@@ -47,7 +48,7 @@ fn read_rank(
         }
         Err(_) => return Err(RosterFault::NoMemory),
     }
-    match read_items(row, RANKS_FILE, RANKED_LIMIT, i, doctors, search, lists) {
+    match read_items(row, RANKS_FILE, RANKED_LIMIT, i, doctors, lists) {
         Ok(()) => Ok(h),
         Err(fault) => Err(fault),
     }
@@ -60,7 +61,8 @@ fn read_rows(
     hospitals: &Names,
     doctors: &Names,
 ) -> Result<Lists, RosterFault>
-    ensures { Reads (first_of (checks_of (rank_checks_after hospitals.now doctors.now) (data_rows table.now))) (ranks_of hospitals.now doctors.now (data_rows table.now)) result }
+    ensures { Reads (first_of (checks_of (rank_checks_after hospitals.now doctors.now) (data_rows table.now)))
+        (ranks_of hospitals.now doctors.now (data_rows table.now)) result }
 {
     let Ok(mut lists) = ListsBuilder::new(
         alloc,
@@ -70,16 +72,8 @@ fn read_rows(
     ) else {
         return Err(RosterFault::NoMemory);
     };
-    let mut search = Search::new(alloc);
     for i in 1..table.rows() {
-        match read_rank(
-            &table.row(i),
-            i as u64,
-            hospitals,
-            doctors,
-            &mut search,
-            &mut lists,
-        ) {
+        match read_rank(&table.row(i), i as u64, hospitals, doctors, &mut lists) {
             Ok(_) => {}
             Err(fault) => return Err(fault),
         }

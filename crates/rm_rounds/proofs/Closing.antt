@@ -35,13 +35,6 @@ still_settled w s t e spent keeps none =
     ∙ none)
     (cases_Bool (is_placed w t e))
 
--- the first doctor who is to go on
-pub settles_first : (C : List ℕ → List ℕ) (w : Wishes) (d : ℕ) (s : State) → Settles C w (Some d) d s s
-settles_first C w d s = record {
-  reached = ([], refl);
-  settled = λ e ne h. ⊎_elim (λ same. absurd (ne (ap Some same))) (λ none. none) h;
-}
-
 number : Option ℕ → ℕ
 number None = 0
 number (Some x) = x

@@ -35,7 +35,8 @@ impl<'a, H: Holder> Model for Desk<'a, H> {
 
     ghost view = { λ k. record { wishes = wishes k.owners.now k.listed.now; spent = spent_each k.doctors.items; holder = k.holder } };
 
-    ghost invariant = { λ k. IsDesk (H.count k.holder) (H.chosen k.holder) (wishes k.owners.now k.listed.now) (state (spent_each k.doctors.items) (H.held k.holder)) (place_each k.doctors.items) };
+    ghost invariant = { λ k. IsDesk (H.count k.holder) (H.chosen k.holder) (wishes k.owners.now k.listed.now)
+        (state (spent_each k.doctors.items) (H.held k.holder)) (place_each k.doctors.items) };
 }
 
 impl<'a, H: Holder> Desk<'a, H> {
@@ -111,7 +112,8 @@ impl<'a, H: Holder> Desk<'a, H> {
         ensures closed { IsTrue result ↔ IsClosed (H.chosen self.now.holder) self.now.wishes (desk_state H.held self.now) }
         ensures optimal { IsTrue result → IsOnlyOptimal (Takes (H.chosen self.now.holder)) self.now.wishes (H.held self.now.holder) }
         ensures held { H.held self.now.holder ≡ H.chosen self.now.holder (offered_so_far self.now.wishes (desk_state H.held self.now)) }
-        ensures refused { (x : ℕ) (T : List ℕ) → IsIn x (offered_so_far self.now.wishes (desk_state H.held self.now)) → ¬ IsIn x (H.held self.now.holder) → IsStable (Takes (H.chosen self.now.holder)) self.now.wishes T → ¬ IsIn x T }
+        ensures refused { (x : ℕ) (T : List ℕ) → IsIn x (offered_so_far self.now.wishes (desk_state H.held self.now)) → ¬ IsIn x (H.held self.now.holder)
+            → IsStable (Takes (H.chosen self.now.holder)) self.now.wishes T → ¬ IsIn x T }
     {
         for d in 0..self.listed.len() {
             if self.can_offer(d) {

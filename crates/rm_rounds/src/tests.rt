@@ -111,9 +111,6 @@ static EVENTS: [Event; 7] = [
     },
 ];
 
-// Orders in which the doctors offer until nobody can.
-static ORDERS: [&[u32]; 2] = [&[ANN, BOB, BOB, ANN], &[BOB, ANN, BOB, ANN]];
-
 // The choices of Ann and of Bob.
 fn choices(alloc: Global) -> Result<Lists, NoMemory>
     ensures { IfOk result (λ lists. lists ≡ (2 ∷ 1 ∷ []) ∷ (3 ∷ 0 ∷ []) ∷ []) }
@@ -154,18 +151,6 @@ fn events_are<H: Holder>(desk: &mut Desk<'_, H>, events: &[Event]) -> bool
     true
 }
 
-// Lets these doctors of two offer in order.
-fn offer_in_order<H: Holder>(desk: &mut Desk<'_, H>, order: &[u32])
-    requires doctors { length desk.old.wishes.listed ≡ 2 }
-    ensures wishes { desk.new.wishes ≡ desk.old.wishes }
-{
-    for d in order {
-        if *d < 2 {
-            desk.offer(*d);
-        }
-    }
-}
-
 // Whether a desk of two is closed with Bob at contract 0 and Ann without a place.
 fn is_ended<H: Holder>(desk: &Desk<'_, H>) -> bool
     requires doctors { length desk.now.wishes.listed ≡ 2 }
@@ -185,14 +170,9 @@ fn turns_tell_what_they_did(rt: HostRuntime) -> Result<(), Fail> {
 }
 
 #[test]
-fn every_order_ends_alike(rt: HostRuntime) -> Result<(), Fail> {
+fn closes(rt: HostRuntime) -> Result<(), Fail> {
     let listed = choices(rt.alloc())?;
     let owners = [1, 0, 0, 1];
-    for order in &ORDERS {
-        let mut desk = new_desk(rt.alloc(), &listed, &owners)?;
-        offer_in_order(&mut desk, *order);
-        assert!(rt; is_ended(&desk));
-    }
     let mut desk = new_desk(rt.alloc(), &listed, &owners)?;
     desk.close_all();
     assert!(rt; is_ended(&desk));

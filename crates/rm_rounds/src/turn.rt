@@ -25,10 +25,13 @@ pub(crate) fn take_turn<H: Holder>(
     doctors: &mut [Doctor],
     d: u32,
 ) -> Turn
-    requires desk { IsDesk (H.count holder.old) (H.chosen holder.old) (wishes owners.now listed.now) (state (spent_each doctors.old) (H.held holder.old)) (place_each doctors.old) }
+    requires desk { IsDesk (H.count holder.old) (H.chosen holder.old) (wishes owners.now listed.now)
+        (state (spent_each doctors.old) (H.held holder.old)) (place_each doctors.old) }
     requires doctor { d < length listed.now }
-    ensures desk { IsDesk (H.count holder.new) (H.chosen holder.new) (wishes owners.now listed.now) (state (spent_each doctors.new) (H.held holder.new)) (place_each doctors.new) }
-    ensures state { state (spent_each doctors.new) (H.held holder.new) ≡ after_turn (H.chosen holder.old) (wishes owners.now listed.now) (state (spent_each doctors.old) (H.held holder.old)) d }
+    ensures desk { IsDesk (H.count holder.new) (H.chosen holder.new) (wishes owners.now listed.now)
+        (state (spent_each doctors.new) (H.held holder.new)) (place_each doctors.new) }
+    ensures state { state (spent_each doctors.new) (H.held holder.new)
+        ≡ after_turn (H.chosen holder.old) (wishes owners.now listed.now) (state (spent_each doctors.old) (H.held holder.old)) d }
     ensures turn { result ≡ turn_of (H.chosen holder.old) (wishes owners.now listed.now) (state (spent_each doctors.old) (H.held holder.old)) d }
     ensures chosen { H.chosen holder.new ≡ H.chosen holder.old }
     ensures count { H.count holder.new ≡ H.count holder.old }
@@ -88,7 +91,8 @@ pub(crate) fn doctor_to_go_on(owners: &[u32], d: u32, turn: Turn) -> Option<u32>
 pub(crate) fn has_offer(listed: &Lists, doctors: &[Doctor], d: u32) -> bool
     requires listed { d < length listed.now }
     requires doctors { d < length doctors.now }
-    ensures { result ≡ (not (is_some (get_or (place_each doctors.now) d None)) && nat_lt (get_or (spent_each doctors.now) d 0) (length (get_or listed.now d []))) }
+    ensures { result ≡ (not (is_some (get_or (place_each doctors.now) d None))
+        && nat_lt (get_or (spent_each doctors.now) d 0) (length (get_or listed.now d []))) }
 {
     let Doctor { spent, place } = doctors[d as usize];
     if place.is_some() {

@@ -1,10 +1,12 @@
 -- Rows that are cut from a list of cells.
-use Rattle.std.proofs.Common.{◌≡◌, ◌+◌, ◌-◌, ◌<◌, ◌≤◌, ◌≢◌, ◌∙◌, ℕ, zero, suc, List, [], ◌∷◌, ◌++◌, length, drop, get_or, refl, ap, sym, arith, length-append}
+use Rattle.std.proofs.Common.{◌≡◌, ◌+◌, ◌-◌, ◌<◌, ◌≤◌, ◌∙◌, ℕ, zero, suc, true, None, Ok, List, [], ◌∷◌, ◌++◌, length, drop, get_or, refl, ap, sym, arith, append_assoc, length-append}
 use Rattle.std.proofs.lemmas.List.{append-nil, drop-append-le, take-append-le, get_or-drop, get_or-take, length-drop, take_all}
 use Rattle.std.proofs.Math.Seq.{drop-append_seam}
 use Rattle.csv.specs.Records.{Rising, last_end, prev}
 use Rattle.csv.proofs.RecordFacts.{rising-first, rising-end, rising-more, last-append, field-bounds}
-use Rattle.rm_table.specs.Rows.{Row, rows_from, row_of}
+use Rattle.rm_table.specs.Rows.{Row, bad_text}
+use Rattle.rm_table.specs.Source.{IsAt, Moves, Stand, begins_at}
+use Rattle.rm_table.proofs.AtLemmas.{at-begin, at-end, at-next}
 use Rattle.rm_table.specs.Packed.{between, rows_cut, ArePackedRows}
 
 -- one row for each place
@@ -49,37 +51,16 @@ pub none-packed : ArePackedRows [] []
 unfolding Rising last_end
 none-packed = record { rising = omega arith; last = refl }
 
--- a row that has a cell is one row more
-pub row-packed : (ends : List ℕ) (cells row : Row) → ArePackedRows ends cells → ArePackedRows (ends ++ length (cells ++ row) ∷ []) (cells ++ row)
-row-packed ends cells row p = record {
-  rising = rising-end 0 ends (length (cells ++ row)) (rising-more 0 ends (length cells) (length (cells ++ row)) p.rising (omega (arith, length-append cells row)));
-  last = last-append 0 ends (length (cells ++ row));
-}
-
-pub row-cut : (ends : List ℕ) (cells row : Row) → ArePackedRows ends cells
-    → rows_cut 0 (ends ++ length (cells ++ row) ∷ []) (cells ++ row) ≡ rows_cut 0 ends cells ++ row ∷ []
-row-cut ends cells row p =
-    cut-end 0 ends (length (cells ++ row)) (cells ++ row)
-    ∙ rw (cut-more 0 ends cells row p.rising, p.last, between-last cells row) refl
-
--- what adding the cells of a row does: nothing where it has none
-pub no-row-added : (ends : List ℕ) (cells new : Row) (fields : List (List ℕ)) → ArePackedRows ends cells → new ≡ cells ++ row_of fields → length cells ≡ length new
-    → ArePackedRows ends new × (rows_cut 0 ends new ≡ rows_cut 0 ends cells ++ rows_from (fields ∷ []))
-no-row-added ends cells new fields p is same = at (row_of fields) refl
-  where
-    at : (row : Row) → row_of fields ≡ row → ArePackedRows ends new × (rows_cut 0 ends new ≡ rows_cut 0 ends cells ++ rows_from (fields ∷ []))
-    at [] none =
-        let unchanged : new ≡ cells = is ∙ rw none (append-nil cells) in
-        rw (unchanged, none) (p, sym (append-nil (rows_cut 0 ends cells)))
-    at (cell ∷ row) some = absurd (omega (arith, same, ap length is, ap length some, length-append cells (row_of fields)))
-
-pub row-added : (ends : List ℕ) (cells new : Row) (new_ends : List ℕ) (fields : List (List ℕ)) → ArePackedRows ends cells → new ≡ cells ++ row_of fields → length cells ≢ length new
-    → new_ends ≡ ends ++ length new ∷ [] → ArePackedRows new_ends new × (rows_cut 0 new_ends new ≡ rows_cut 0 ends cells ++ rows_from (fields ∷ []))
-row-added ends cells new new_ends fields p is other ends_are = at (row_of fields) refl
-  where
-    at : (row : Row) → row_of fields ≡ row → ArePackedRows new_ends new × (rows_cut 0 new_ends new ≡ rows_cut 0 ends cells ++ rows_from (fields ∷ []))
-    at [] none = absurd (other (ap length (sym (is ∙ rw none (append-nil cells)))))
-    at (cell ∷ row) some = rw (ends_are, is, some) (row-packed ends cells (cell ∷ row) p, row-cut ends cells (cell ∷ row) p)
+-- one row more
+pub row-packed : (ends new_ends : List ℕ) (cells new row : Row) → ArePackedRows ends cells → new ≡ cells ++ row → new_ends ≡ ends ++ length new ∷ []
+    → ArePackedRows new_ends new × (rows_cut 0 new_ends new ≡ rows_cut 0 ends cells ++ row ∷ [])
+row-packed ends new_ends cells new row p is ends_are = rw (ends_are, is) (
+  record {
+    rising = rising-end 0 ends (length (cells ++ row)) (rising-more 0 ends (length cells) (length (cells ++ row)) p.rising (omega (arith, length-append cells row)));
+    last = last-append 0 ends (length (cells ++ row));
+  },
+  cut-end 0 ends (length (cells ++ row)) (cells ++ row) ∙ rw (cut-more 0 ends cells row p.rising, p.last, between-last cells row) refl,
+)
 
 -- where a row starts and ends
 pub row-bounds : (ends : List ℕ) (cells : Row) (i : ℕ) → ArePackedRows ends cells → i < length ends → (prev 0 ends i ≤ get_or ends i 0) × (get_or ends i 0 ≤ length cells)
@@ -88,3 +69,25 @@ row-bounds ends cells i p h = field-bounds 0 ends (length cells) i p.rising h
 -- the cell at a place of a row
 pub cell-between : (start end : ℕ) (cells : Row) (j : ℕ) → start ≤ end → end ≤ length cells → j < end - start → get_or (between start end cells) j [] ≡ get_or cells (start + j) []
 cell-between start end cells j h g lt = get_or-take (end - start) (drop start cells) j [] lt ∙ get_or-drop start cells j []
+
+-- ---- rows that are kept, from a source in their midst
+
+pub record AreKept (rows : List Row) (ends : List ℕ) (cells : Row) (stand : Stand) : Type 0 where
+  pub packed : ArePackedRows ends cells
+  pub at : IsAt rows stand
+  pub kept : rows ≡ rows_cut 0 ends cells ++ stand.coming
+
+pub none-kept : (rows : List Row) → AreKept rows [] [] (begins_at rows)
+unfolding rows_cut
+none-kept rows = record { packed = none-packed; at = at-begin rows; kept = refl }
+
+pub one-kept : (rows : List Row) (ends : List ℕ) (cells : Row) (a b : Stand) (new_ends : List ℕ) (new_cells : Row) → AreKept rows ends cells a → Moves a b (Ok true)
+    → ArePackedRows new_ends new_cells → rows_cut 0 new_ends new_cells ≡ rows_cut 0 ends cells ++ b.row ∷ [] → AreKept rows new_ends new_cells b
+one-kept rows ends cells a b new_ends new_cells k m packed more = record {
+  packed = packed;
+  at = at-next rows a b k.at m;
+  kept = k.kept ∙ ap (λ (l : List Row). rows_cut 0 ends cells ++ l) m.0 ∙ sym (append_assoc (rows_cut 0 ends cells) (b.row ∷ []) b.coming) ∙ ap (λ (l : List Row). l ++ b.coming) (sym more);
+}
+
+pub all-kept : (rows : List Row) (ends : List ℕ) (cells : Row) (a : Stand) → AreKept rows ends cells a → a.coming ≡ [] → (bad_text rows ≡ None) × (rows_cut 0 ends cells ≡ rows)
+all-kept rows ends cells a k none = (at-end rows a k.at none, sym (k.kept ∙ rw none (append-nil (rows_cut 0 ends cells))))

@@ -1,7 +1,11 @@
+pub mod AtLemmas
 pub mod CellLemmas
 pub mod CutLemmas
+mod HeaderLemmas
 pub mod OnLiterals
 pub mod PackLemmas
 pub mod RecordLemmas
 mod Small
+pub mod SourceLemmas
 pub mod TextLemmas
+pub mod TrimLemmas

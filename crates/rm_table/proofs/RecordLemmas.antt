@@ -1,24 +1,16 @@
 -- The records of a text, one read after another.
-use Rattle.std.proofs.Common.{◌≡◌, ◌+◌, ◌<◌, ◌≤◌, ◌⊎◌, ◌∙◌, ℕ, zero, suc, true, false, List, [], ◌∷◌, ◌++◌, length, Option, Some, None, inl, inr, refl, ap, sym, arith, add-one, Bor, append_assoc, filter, map, Err}
+use Rattle.std.proofs.Common.{◌≡◌, ◌+◌, ◌<◌, ◌≤◌, ◌⊎◌, ◌∙◌, ℕ, zero, suc, true, List, [], ◌∷◌, ◌++◌, length, Option, Some, None, inl, inr, refl, ap, sym, arith, add-one, Bor, filter, map}
 use Rattle.std.proofs.lemmas.Bool.{cases_Bool}
-use Rattle.std.proofs.lemmas.List.{append-nil}
 use Rattle.std.proofs.lemmas.List.Elements.{filter-append}
 use Rattle.csv.specs.Machine.{Read, next_record, step, is_end, fields_after, field_after, ends_at_end}
-use Rattle.csv.specs.Reading.{default_config, records_from, records_next, strip_bom, Reached, ReadRecord, Ready, source_of}
+use Rattle.csv.specs.Reading.{default_config, records_from, records_next, Reached, ReadRecord, source_of}
 use Rattle.csv.specs.Records.{AllText}
 use Rattle.csv.specs.declared.parser.Config.{Config}
 use Rattle.csv.specs.declared.parser.State.{State}
 use Rattle.csv.specs.declared.parser.State.TheVariants as st
 use Rattle.csv.specs.declared.reader.Reader.{Reader}
-use Rattle.csv.specs.declared.reader.Trim.TheVariants as trim
-use Rattle.csv.proofs.ReadFacts.{rows-more, rows-end}
-use Rattle.rm_table.specs.Rows.{Row, bad_text, has_cell, row_of, rows_from, rows_of}
-use Rattle.rm_table.specs.Packed.{rows_cut}
-use Rattle.rm_table.specs.Answer.{AddsRow, ReadsRows}
-use Rattle.rm_table.specs.declared.TableFault.{TableFault}
-use Rattle.rm_table.specs.declared.TableFault.TheVariants as fault
-use Rattle.rm_table.proofs.CutLemmas.{cut-length}
-use Rattle.rm_table.proofs.TextLemmas.{AllRowsText, texts-append, row-text, no-bad-text, first-bad-text, no-rows-yet}
+use Rattle.csv.proofs.ReadFacts.{rows-more}
+use Rattle.rm_table.specs.Rows.{Row, has_cell, row_of, rows_from}
 
 -- the records that are read from a state on
 abbrev pub records_after : State → List ℕ → List (List (List ℕ))
@@ -110,7 +102,7 @@ pub rows-front : (f : List (List ℕ)) (rs : List (List (List ℕ))) → rows_fr
 rows-front f rs = filter-append has_cell (row_of f ∷ []) (map row_of rs)
 
 -- a row that is no text is kept
-bad-kept : (row : Row) (rows : List Row) → ¬ (AllText row) → filter has_cell (row ∷ rows) ≡ row ∷ filter has_cell rows
+pub bad-kept : (row : Row) (rows : List Row) → ¬ (AllText row) → filter has_cell (row ∷ rows) ≡ row ∷ filter has_cell rows
 unfolding AllText
 bad-kept [] rows h = absurd (h tt)
 bad-kept (cell ∷ cells) rows h = refl
@@ -126,72 +118,3 @@ count_after s (Some bytes) = length (records_after s bytes)
 -- how many records a reader has left
 abbrev pub records_left : Reader (Bor (List ℕ)) → ℕ
 records_left rdr = count_after rdr.state (rest_of rdr)
-
--- A reader in the midst of a text: these are the rows so far, and it has the rest.
-pub record Going (rdr : Reader (Bor (List ℕ))) (bytes : List ℕ) (rows : List Row) : Type 0 where
-  pub trim : rdr.trim ≡ trim.None
-  pub ready : Ready rdr
-  pub config : rdr.config ≡ default_config
-  pub rest : List ℕ
-  pub source : source_of (λ (s : Bor (List ℕ)). Some s.now) rdr ≡ Some rest
-  pub rows_are : rows_of bytes ≡ rows ++ rows_from (records_after rdr.state rest)
-  pub texts : AllRowsText rows
-
-pub going-start : (rdr : Reader (Bor (List ℕ))) (bytes : List ℕ) → rdr.trim ≡ trim.None → Ready rdr → rdr.config ≡ default_config → rdr.state ≡ st.StartRecord
-    → source_of (λ (s : Bor (List ℕ)). Some s.now) rdr ≡ Some (strip_bom bytes) → Going rdr bytes []
-unfolding rows_of
-going-start rdr bytes trim ready config state source = record {
-  trim = trim;
-  ready = ready;
-  config = config;
-  rest = strip_bom bytes;
-  source = source;
-  rows_are = rw state refl;
-  texts = no-rows-yet;
-}
-
-pub going-more : (a b : Reader (Bor (List ℕ))) (bytes : List ℕ) (rows new : List Row) (f : List (List ℕ))
-    → Going a bytes rows → ReadRecord (λ (s : Bor (List ℕ)). Some s.now) a b true f → b.first ≡ true
-    → new ≡ rows ++ rows_from (f ∷ []) → AllText (row_of f) → Going b bytes new
-going-more a b bytes rows new f g read first is text =
-    let r = read-more (λ (s : Bor (List ℕ)). Some s.now) a b f g.rest g.config g.source read in
-    record {
-      trim = read.3 ∙ g.trim;
-      ready = inl first;
-      config = read.2 ∙ g.config;
-      rest = r.0;
-      source = r.1;
-      rows_are = g.rows_are ∙ ap (λ (l : List Row). rows ++ l) (ap rows_from r.2 ∙ rows-front f (records_after b.state r.0))
-          ∙ sym (append_assoc rows (rows_from (f ∷ [])) (rows_from (records_after b.state r.0)))
-          ∙ ap (λ (l : List Row). l ++ rows_from (records_after b.state r.0)) (sym is);
-      texts = rw is (texts-append rows (rows_from (f ∷ [])) g.texts (row-text f text));
-    }
-
--- fewer records are left after a read
-pub fewer-left : (a b : Reader (Bor (List ℕ))) (bytes : List ℕ) (rows : List Row) (f : List (List ℕ))
-    → Going a bytes rows → ReadRecord (λ (s : Bor (List ℕ)). Some s.now) a b true f → records_left b < records_left a
-fewer-left a b bytes rows f g read =
-    let r = read-more (λ (s : Bor (List ℕ)). Some s.now) a b f g.rest g.config g.source read in
-    rw (g.source, r.1, r.2) (omega arith)
-
-pub going-bad : (a b : Reader (Bor (List ℕ))) (bytes : List ℕ) (rows : List Row) (f : List (List ℕ)) (n : ℕ)
-    → Going a bytes rows → ReadRecord (λ (s : Bor (List ℕ)). Some s.now) a b true f → ¬ (AllText (row_of f)) → n ≡ length rows
-    → bad_text (rows_of bytes) ≡ Some n
-going-bad a b bytes rows f n g read no_text place =
-    let r = read-more (λ (s : Bor (List ℕ)). Some s.now) a b f g.rest g.config g.source read in
-    let rows_are = g.rows_are ∙ ap (λ (l : List Row). rows ++ l) (ap rows_from r.2 ∙ bad-kept (row_of f) (map row_of (records_after b.state r.0)) no_text) in
-    rw (rows_are, place) (first-bad-text rows (row_of f) (rows_from (records_after b.state r.0)) g.texts no_text)
-
-pub going-end : (a b : Reader (Bor (List ℕ))) (bytes : List ℕ) (rows : List Row) (f : List (List ℕ))
-    → Going a bytes rows → ReadRecord (λ (s : Bor (List ℕ)). Some s.now) a b false f → (bad_text (rows_of bytes) ≡ None) × (rows ≡ rows_of bytes)
-going-end a b bytes rows f g read =
-    let none = records-end a.state g.rest (rows-end (λ (s : Bor (List ℕ)). Some s.now) a b f default_config g.rest g.config g.source read) in
-    let all = g.rows_are ∙ ap (λ (l : List Row). rows ++ l) (ap rows_from none) ∙ append-nil rows in
-    (rw all (no-bad-text rows g.texts), sym all)
-
--- where adding a row fails, reading fails
-pub going-stops : (a b : Reader (Bor (List ℕ))) (bytes ends : List ℕ) (cells : Row) (f : List (List ℕ)) (new_ends : List ℕ) (new_cells : Row) (e : TableFault)
-    → Going a bytes (rows_cut 0 ends cells) → ReadRecord (λ (s : Bor (List ℕ)). Some s.now) a b true f → AddsRow ends cells f new_ends new_cells (Err e) → ReadsRows bytes (Err e)
-going-stops a b bytes ends cells f new_ends new_cells (fault.BadText n) g read told =
-    going-bad a b bytes (rows_cut 0 ends cells) f n g read told.1 (told.0 ∙ sym (cut-length 0 ends cells))
-going-stops a b bytes ends cells f new_ends new_cells fault.NoMemory g read told = tt

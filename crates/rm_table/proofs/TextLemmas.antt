@@ -1,34 +1,13 @@
 -- Rows of text, and the first row that isn't.
-use Rattle.std.proofs.Common.{◌≡◌, ◌<◌, ℕ, true, false, not, List, [], ◌∷◌, ◌++◌, length, filter, inl, inr, Some, None, refl, arith, length-append}
+use Rattle.std.proofs.Common.{◌≡◌, ◌+◌, ◌∙◌, ℕ, suc, true, false, cond, not, List, [], ◌∷◌, ◌++◌, length, inl, inr, Option, Some, None, refl, ap, sym, arith}
+use Rattle.std.proofs.Math.Dec.{ltb}
+use Rattle.std.proofs.lemmas.List.{append-nil}
 use Rattle.std.specs.List.{list_all, position_or_len}
 use Rattle.std.specs.Str.{is_utf8}
 use Rattle.std.proofs.lemmas.Str.{IsUtf8-from_is_utf8, is_utf8-from_IsUtf8}
-use Rattle.std.proofs.lemmas.Bool.{and_parts, and_from, cases_Bool, lt-ltb, le-ltb}
+use Rattle.std.proofs.lemmas.Bool.{and_parts, and_from, cases_Bool, cases_lt, lt-ltb, le-ltb}
 use Rattle.csv.specs.Records.{AllText}
-use Rattle.rm_table.specs.Rows.{Row, bad_text, has_cell, is_text, rows_from, row_of}
-
--- each cell of each row is text
-unfoldable pub AllRowsText : List Row → Type 0
-AllRowsText [] = Unit {0}
-AllRowsText (row ∷ rows) = AllText row × AllRowsText rows
-
-pub no-rows-yet : AllRowsText []
-unfolding AllRowsText
-no-rows-yet = tt
-
-pub texts-append : (a b : List Row) → AllRowsText a → AllRowsText b → AllRowsText (a ++ b)
-unfolding AllRowsText
-texts-append [] b h k = k
-texts-append (row ∷ rows) b h k = (h.0, texts-append rows b h.1 k)
-
--- the row of a record of text, where it is kept
-kept-text : (row : Row) → AllText row → AllRowsText (filter has_cell (row ∷ []))
-unfolding AllRowsText
-kept-text [] h = tt
-kept-text (cell ∷ cells) h = (h, tt)
-
-pub row-text : (fields : List (List ℕ)) → AllText (row_of fields) → AllRowsText (rows_from (fields ∷ []))
-row-text fields h = kept-text (row_of fields) h
+use Rattle.rm_table.specs.Rows.{Row, bad_text, is_text}
 
 -- the test of a row says whether it is text
 pub test-true : (row : Row) → AllText row → is_text row ≡ true
@@ -49,23 +28,48 @@ test-false row h = elim (cases_Bool (is_text row)) [
   | inr fails ↦ fails
 ]
 
-all-pass : (rows : List Row) → AllRowsText rows → position_or_len (λ row. not (is_text row)) rows ≡ length rows
-unfolding AllRowsText
-all-pass [] h = refl
-all-pass (row ∷ rows) h = rw (test-true row h.0) (omega (arith, all-pass rows h.1))
-
-pub no-bad-text : (rows : List Row) → AllRowsText rows → bad_text rows ≡ None
+-- a row that is no text is the first such row
+pub bad-first : (bad : Row) (after : List Row) → ¬ (AllText bad) → bad_text (bad ∷ after) ≡ Some 0
 unfolding bad_text
-no-bad-text rows h = rw (all-pass rows h, le-ltb (length rows) (length rows) (omega arith)) refl
+bad-first bad after fails = rw (test-false bad fails, lt-ltb 0 (length (bad ∷ after)) (omega arith)) refl
 
-first-fails : (before : List Row) (bad : Row) (after : List Row) → AllRowsText before → is_text bad ≡ false
-    → position_or_len (λ row. not (is_text row)) (before ++ bad ∷ after) ≡ length before
-unfolding AllRowsText
-first-fails [] bad after h e = rw e refl
-first-fails (row ∷ rows) bad after h e = rw (test-true row h.0) (omega (arith, first-fails rows bad after h.1 e))
+-- a place among later rows
+later : ℕ → Option ℕ → Option ℕ
+later n None = None
+later n (Some k) = Some (n + k)
 
-pub first-bad-text : (before : List Row) (bad : Row) (after : List Row) → AllRowsText before → ¬ (AllText bad) → bad_text (before ++ bad ∷ after) ≡ Some (length before)
+later-place : (k n : ℕ) → cond (ltb (1 + k) (suc n)) (Some (1 + k)) None ≡ later 1 (cond (ltb k n) (Some k) None)
+unfolding later
+later-place k n = elim (cases_lt k n) [
+  | inl lt ↦ rw (lt-ltb (1 + k) (suc n) (omega (arith, lt)), lt-ltb k n lt) refl
+  | inr ge ↦ rw (le-ltb (1 + k) (suc n) (omega (arith, ge)), le-ltb k n ge) refl
+]
+
+bad-after : (row : Row) (rows : List Row) → is_text row ≡ true → bad_text (row ∷ rows) ≡ later 1 (bad_text rows)
 unfolding bad_text
-first-bad-text before bad after h fails =
-    let within : length before < length (before ++ bad ∷ after) = omega (arith, length-append before (bad ∷ after)) in
-    rw (first-fails before bad after h (test-false bad fails), lt-ltb (length before) (length (before ++ bad ∷ after)) within) refl
+bad-after row rows text = rw text (later-place (position_or_len (λ (r : Row). not (is_text r)) rows) (length rows))
+
+later-suc : (n : ℕ) (o : Option ℕ) → later 1 (later n o) ≡ later (suc n) o
+unfolding later
+later-suc n None = refl
+later-suc n (Some k) = ap Some (omega arith)
+
+later-none : (o : Option ℕ) → o ≡ later 0 o
+unfolding later
+later-none None = refl
+later-none (Some k) = ap Some (omega arith)
+
+bad-behind : (given coming : List Row) → list_all is_text given ≡ true → bad_text (given ++ coming) ≡ later (length given) (bad_text coming)
+bad-behind [] coming texts = later-none (bad_text coming)
+bad-behind (row ∷ given) coming texts =
+    let parts = and_parts (is_text row) (list_all is_text given) texts in
+    bad-after row (given ++ coming) parts.0 ∙ ap (later 1) (bad-behind given coming parts.1) ∙ later-suc (length given) (bad_text coming)
+
+-- behind rows of text there is none, or the next one is no text
+pub no-bad-text : (rows : List Row) → list_all is_text rows ≡ true → bad_text rows ≡ None
+unfolding bad_text later
+no-bad-text rows texts = ap bad_text (sym (append-nil rows)) ∙ bad-behind rows [] texts
+
+pub next-bad-text : (given coming : List Row) → list_all is_text given ≡ true → bad_text coming ≡ Some 0 → bad_text (given ++ coming) ≡ Some (length given)
+unfolding later
+next-bad-text given coming texts bad = bad-behind given coming texts ∙ rw bad (ap Some (omega arith))

@@ -1,3 +1,5 @@
 pub mod Answer
+pub mod Header
 pub mod Packed
 pub mod Rows
+pub mod Source

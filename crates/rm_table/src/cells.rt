@@ -48,6 +48,15 @@ fn cell(field: &[u8]) -> &[u8]
     }
 }
 
+// The cell of a field of text.
+pub fn trimmed(field: &str) -> &str
+    ensures { result.now ≡ cell_of field.entry.now }
+{
+    let first = front_len(field.as_bytes());
+    let end = kept_len(field.as_bytes());
+    if first < end { &field[first..end] } else { "" }
+}
+
 // The cell of a record at a place.
 pub fn cell_at(fields: &ByteRecord, i: usize) -> &[u8]
     requires { i < length (fields_of fields.now) }

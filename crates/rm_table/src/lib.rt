@@ -1,19 +1,23 @@
 //! Tables: the rows of a text of CSV, all in one buffer.
 #![tactic(auto)]
 
-ghost use Rattle.std.specs.Prelude.{◌≡◌, ◌<◌, ℕ, [], get_or, length};
-ghost use Rattle.csv.specs.Records.{fields_of};
-ghost use Rattle.rm_table.specs.Rows.{row_of};
-ghost use Rattle.rm_table.specs.Packed.{ArePackedRows};
-ghost use Rattle.rm_table.specs.Answer.{ReadsRows, PushesCells, AddsRow};
+ghost use Rattle.std.specs.Prelude.{◌≡◌, ◌<◌, ◌∷◌, ◌++◌, ℕ, None, OnOk, [], get_or, length};
+ghost use Rattle.csv.specs.Records.{AllText};
+ghost use Rattle.rm_table.specs.Rows.{bad_text};
+ghost use Rattle.rm_table.specs.Packed.{ArePackedRows, rows_cut};
+ghost use Rattle.rm_table.specs.Answer.{ReadsRows};
 
 mod cells;
+mod header;
 mod packed_cells;
+mod rows;
+mod source;
 
-use cells::{cell_at, cell_count};
-use csv::{ByteRecord, ReaderBuilder};
+pub use header::{read_header, wrong_cell};
 use packed_cells::{PackedCells, start_of};
-use std::alloc::Global;
+pub use rows::Rows;
+pub use source::{RowSource, TableRows, check_rest};
+use std::alloc::{AllocError, Global};
 use std::marker::Model;
 
 /// Why a table was not read.
@@ -25,42 +29,27 @@ pub enum TableFault {
     NoMemory,
 }
 
-// Adds the cells of the row of a record. The row has this number.
-fn push_cells(cells: &mut PackedCells, fields: &ByteRecord, row: u64) -> Result<(), TableFault>
-    ensures { PushesCells cells.old (row_of (fields_of fields.now)) row cells.new result }
+// Adds the cells of the row at hand.
+fn push_cells(cells: &mut PackedCells, rows: &Rows<'_>) -> Result<(), AllocError>
+    ensures { OnOk result (cells.new ≡ cells.old ++ rows.now.row) }
 {
-    for i in 0..cell_count(fields) {
-        let Ok(text) = str::from_utf8(cell_at(fields, i)) else {
-            return Err(TableFault::BadText(row));
-        };
-        let Ok(()) = cells.push(text) else {
-            return Err(TableFault::NoMemory);
-        };
+    for j in 0..rows.cells() {
+        cells.push(rows.cell(j))?;
     }
     Ok(())
 }
 
-// Adds the row of a record, unless it has no cell.
-fn add_row(
-    ends: &mut Vec<u32>,
-    cells: &mut PackedCells,
-    fields: &ByteRecord,
-) -> Result<(), TableFault>
+// Adds the row at hand.
+fn push_row(ends: &mut Vec<u32>, cells: &mut PackedCells, rows: &Rows<'_>) -> Result<(), AllocError>
     requires { ArePackedRows ends.old.items cells.old }
-    ensures { AddsRow ends.old.items cells.old (fields_of fields.now) ends.new.items cells.new result }
+    ensures packed { OnOk result (ArePackedRows ends.new.items cells.new) }
+    ensures rows { OnOk result (rows_cut 0 ends.new.items cells.new ≡ rows_cut 0 ends.old.items cells.old ++ rows.now.row ∷ []) }
 {
-    let start = cells.len();
-    push_cells(cells, fields, ends.len() as u64)?;
-    let count = cells.len();
-    if start == count {
-        return Ok(());
-    }
-    let Ok(end) = u32::try_from(count) else {
-        return Err(TableFault::NoMemory);
+    push_cells(cells, rows)?;
+    let Ok(end) = u32::try_from(cells.len()) else {
+        return Err(AllocError);
     };
-    if ends.push(end).is_err() {
-        return Err(TableFault::NoMemory);
-    }
+    ends.push(end)?;
     Ok(())
 }
 
@@ -98,19 +87,14 @@ impl Table {
         let Ok(mut cells) = PackedCells::with_capacity(alloc, bytes.len(), bytes.len() / 4) else {
             return Err(TableFault::NoMemory);
         };
-        let mut reader = ReaderBuilder::new()
-            .has_headers(false)
-            .flexible(true)
-            .from_reader(alloc, bytes);
-        let mut fields = ByteRecord::new(alloc);
+        let mut rows = Rows::open(alloc, bytes);
         let mut ends = Vec::new(alloc);
-        'records: loop {
-            match reader.read_byte_record(&mut fields) {
-                Ok(true) => add_row(&mut ends, &mut cells, &fields)?,
-                Ok(false) => return Ok(Table { cells, ends }),
-                Err(_) => return Err(TableFault::NoMemory),
-            }
+        'rows: while rows.next()? {
+            let Ok(()) = push_row(&mut ends, &mut cells, &rows) else {
+                return Err(TableFault::NoMemory);
+            };
         }
+        Ok(Table { cells, ends })
     }
 
     /// How many rows there are. A header is row 0.
@@ -129,6 +113,25 @@ impl Table {
             cells: &self.cells,
             start: start_of(&self.ends, i),
             end: self.ends[i] as usize,
+        }
+    }
+
+    /// The law that each cell of a table is UTF-8. It does nothing.
+    pub fn is_text(&self)
+        ensures { bad_text self.now ≡ None }
+    {
+        self.cells.are_text();
+        let _ends = &self.ends;
+    }
+
+    // A row without cells, lent.
+    fn no_row(&self) -> Row<'_>
+        ensures { result ≡ [] }
+    {
+        Row {
+            cells: &self.cells,
+            start: 0,
+            end: 0,
         }
     }
 
@@ -161,6 +164,14 @@ impl<'a> Model for Row<'a> {
 }
 
 impl<'a> Row<'a> {
+    // Each cell is text.
+    fn is_text(&self)
+        ensures { AllText self.now }
+    {
+        self.cells.are_text();
+        let _end = self.end;
+    }
+
     /// How many cells there are up to the last one that isn't empty.
     pub fn len(&self) -> usize
         ensures { result ≡ length self.now }

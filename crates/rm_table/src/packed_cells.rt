@@ -1,7 +1,7 @@
 // Cells, one after another in one buffer of text.
 
 ghost use Rattle.std.specs.Prelude.{◌≡◌, ◌<◌, [], ◌∷◌, ◌++◌, length, get_or, IfOk, OnOk, OnErr};
-ghost use Rattle.csv.specs.Records.{prev};
+ghost use Rattle.csv.specs.Records.{AllText, prev};
 
 use std::alloc::{AllocError, Global};
 use std::marker::Model;
@@ -51,6 +51,13 @@ impl PackedCells {
             text: String::with_capacity(alloc, bytes)?,
             ends: Vec::with_capacity(alloc, cells)?,
         })
+    }
+
+    /// Each cell is text.
+    pub fn are_text(&self)
+        ensures { AllText self.now }
+    {
+        let _text = &self.text;
     }
 
     /// How many cells there are.

@@ -1,6 +1,6 @@
 // Tables of small texts.
 
-use crate::{Table, TableFault};
+use crate::{RowSource, Rows, Table, TableFault, TableRows, check_rest, read_header};
 use std::alloc::Global;
 
 #[derive(Clone, Copy)]
@@ -106,4 +106,63 @@ fn reads_a_large_table(rt: HostRuntime) {
     };
     assert!(rt; table.rows() == 10_000);
     assert!(rt; has_cells(&table, 9_999, &["a", "b", "c", "d", "e", "f", "g"]));
+}
+
+// Whether the row at hand has just these cells.
+fn is_at<S: RowSource>(source: &S, cells: &[&str]) -> bool {
+    for j in 0..cells.len() {
+        if source.cell(j) != cells[j] {
+            return false;
+        }
+    }
+    source.cells() == cells.len() && source.cell(cells.len()).is_empty()
+}
+
+// Whether a source gives just these rows, and then no more.
+fn gives<S: RowSource>(source: &mut S, rows: &[&[&str]]) -> bool {
+    for i in 0..rows.len() {
+        let Ok(true) = source.next() else {
+            return false;
+        };
+        if !is_at(source, rows[i]) {
+            return false;
+        }
+    }
+    source.next() == Ok(false) && source.next() == Ok(false)
+}
+
+fn gives_both(alloc: Global, case: &Case) -> bool {
+    let Ok(table) = Table::read(alloc, case.bytes) else {
+        return false;
+    };
+    gives(&mut Rows::open(alloc, case.bytes), case.rows)
+        && gives(&mut TableRows::open(&table), case.rows)
+}
+
+#[test]
+fn gives_rows_one_at_a_time(rt: HostRuntime) {
+    for case in &CASES {
+        let name = case.name;
+        assert!(rt; gives_both(rt.alloc(), case), "{name}");
+    }
+}
+
+#[test]
+fn stops_at_bad_text(rt: HostRuntime) {
+    let mut rows = Rows::open(rt.alloc(), b"a\n , \nb,,\xc3\nc\n");
+    assert!(rt; rows.next() == Ok(true));
+    assert!(rt; rows.next() == Err(TableFault::BadText(1)));
+    assert!(rt; rows.next() == Ok(false));
+}
+
+#[test]
+fn reads_the_header(rt: HostRuntime) {
+    let alloc = rt.alloc();
+    let mut rows = Rows::open(alloc, b"a, b \nc\n");
+    assert!(rt; read_header(&mut rows, &["a", "b"]) == Ok(None));
+    assert!(rt; rows.next() == Ok(true) && is_at(&rows, &["c"]));
+    let mut rows = Rows::open(alloc, b"a,b\n\xff\n");
+    assert!(rt; read_header(&mut rows, &["a", "c"]) == Ok(Some(2)));
+    assert!(rt; check_rest(&mut rows) == Err(TableFault::BadText(1)));
+    assert!(rt; read_header(&mut Rows::open(alloc, b""), &["a"]) == Ok(Some(1)));
 }

@@ -1,7 +1,8 @@
-pub mod Answering
 pub mod Chosen
-pub mod Endings
+pub mod OwnRows
 pub mod Pieces
 pub mod Placed
 pub mod PlacesWithin
 pub mod Reporting
+mod WrongAnswers
+pub mod WithoutPolicy

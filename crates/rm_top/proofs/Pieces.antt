@@ -1,15 +1,9 @@
 -- A text that is put piece after piece.
-use Rattle.std.proofs.Common.{◌≡◌, ◌+◌, ◌-◌, ◌≤◌, ◌∙◌, ◌++◌, ℕ, zero, suc, List, [], ◌∷◌, length, take, drop, Option, Some, None, refl, sym, ap, arith, append_assoc}
-use Rattle.std.proofs.Math.Seq.{take-add}
+use Rattle.std.proofs.Common.{◌≡◌, ◌+◌, ◌-◌, ◌≤◌, ℕ, zero, suc, List, [], ◌∷◌, length, take, drop, Option, refl, ap, arith}
 use Rattle.std.proofs.lemmas.List.{length-take}
 use Rattle.rm_base.specs.Text.{Text}
+use Rattle.rm_outside.proofs.GainLemmas.{gains-more}
 use Rattle.rm_outside.specs.Outside.{Gains, GainsPart}
-
--- the next k bytes after the first s
-pub gains-more : (a b c : Option Text) (t : Text) (s k : ℕ) → Gains a b (take s t) → Gains b c (take k (drop s t)) → Gains a c (take (s + k) t)
-gains-more None b c t s k first next = rw first at next
-gains-more (Some w) b c t s k first next =
-    (rw first at next) ∙ ap Some (append_assoc w (take s t) (take k (drop s t)) ∙ ap (λ (x : List ℕ). w ++ x) (sym (take-add s k t)))
 
 -- a front of a front
 front-of : (xs : Text) (k m : ℕ) → k ≤ m → take k (take m xs) ≡ take k xs

@@ -6,7 +6,10 @@ use Rattle.rm_market.specs.Flexible.{Region, flexible}
 use Rattle.rm_market.specs.Market.{Market, IsMarket, IsPlacementOf}
 use Rattle.rm_market_laws.specs.Results.{ChoosesBest, IsTruthfulIn}
 use Rattle.rm_market_laws.proofs.Market.{same_in, truthful_in, runs_well_in, runs_close_in}
+use Rattle.rm_group_laws.proofs.MarketGroups.{no_group_gains, nothing_better_in}
+use Rattle.rm_group_laws.proofs.MarketParts.{fills_the_same}
 use Rattle.rm_flexible_laws.proofs.Procedure.{chooses_best}
+use Rattle.rm_kamada_kojima_laws.proofs.Results.{placement_is_kk_stable}
 use Rattle.rm_case.specs.Case.{CaseData, IsCase, market, regions}
 use Rattle.rm_case.specs.Regions.{AreRegionsOf}
 use Rattle.rm_case.specs.Solving.{IsSolved}
@@ -22,7 +25,7 @@ nobody_gains m S ok is =
 places_the_same : (m : Market) (S : List ℕ) → IsMarket m → IsPlacementOf m S → PlacesTheSame m S
 places_the_same m S ok is T d t = same_in m ok T S d t is.optimal.stable
 
-ends_in : (m : Market) (regions : List Region) (S : List ℕ) → IsMarket m → AreRegionsOf m.board regions → IsPlacementOf m S → EndsIn m regions S
+pub ends_in : (m : Market) (regions : List Region) (S : List ℕ) → IsMarket m → AreRegionsOf m.board regions → IsPlacementOf m S → EndsIn m regions S
 ends_in m regions S ok are is =
     let best : ChoosesBest m (flexible m.board regions) = chooses_best m regions ok are.lawful are.compiled in
     record {
@@ -35,8 +38,12 @@ placed c S case feasible is = record {
   feasible = feasible;
   placement = is;
   truthful = nobody_gains (market c) S case.market is;
+  groups = no_group_gains (market c) S case.market is;
+  efficient = nothing_better_in (market c) S case.market is;
   same = places_the_same (market c) S case.market is;
+  fills = fills_the_same (market c) case.market S is.optimal.stable;
   flexible = λ kind. ends_in (market c) (regions c) S case.market (case.regions kind) is;
+  kk_stable = λ kind. let are = case.regions kind in placement_is_kk_stable (market c) (regions c) case.market are.lawful are.compiled S is;
 }
 
 pub placed_text : (c : CaseData) (hospitals : List (Option ℕ)) (text : Text) → IsCase c → IsSolved c hospitals → text ≡ placement_text c hospitals → IsPlacementText c text

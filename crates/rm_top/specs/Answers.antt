@@ -1,18 +1,20 @@
 -- The answers of the program, each with its cause and with what it writes.
 use Rattle.std.specs.Prelude.{◌≡◌, ◌≢◌, ◌⊎◌, ℕ, List, [], Option, Some, None, Ok, IsSome, IfSome}
-use Rattle.std.specs.FinMap.{get}
 use Rattle.rm_base.specs.Text.{Text, Files}
 use Rattle.rm_base.specs.declared.Refusal.{Refusal}
 use Rattle.rm_base.specs.declared.codes.TheConstants.{OWN_FILE}
 use Rattle.rm_market.specs.Certificate.{certificate}
 use Rattle.rm_market.specs.Market.{Best, places_of}
 use Rattle.rm_outside.specs.Outside.{HasRisen, Gains, GainsPart}
+use Rattle.rm_table.specs.Rows.{Row}
 use Rattle.rm_case.specs.Case.{CaseData, market_of, market}
-use Rattle.rm_case.specs.Own.{own_of}
+use Rattle.rm_case.specs.Own.{offers_of}
 use Rattle.rm_report.specs.Texts.{placement_text, check_text, certificate_text}
-use Rattle.rm_top.specs.Command.{Command, place, check, choose, folder_in, file_of, refusal_of}
+use Rattle.rm_top.specs.Command.{Command, usage_text, folder_in, file_of, own_refusal, own_rows, refusal_of}
 use Rattle.rm_top.specs.Headline.{IsPlaced}
-use Rattle.rm_top.specs.Texts.{usage_text, refusal_text, read_fault_text, write_fault_text, no_memory_text}
+use Rattle.rm_top.specs.Texts.{refusal_text, read_fault_text, write_fault_text, no_memory_text}
+use Rattle.rm_top.specs.declared.command.Kind.{Kind}
+use Rattle.rm_top.specs.declared.command.Kind.TheVariants as kinds
 
 -- ---- statuses
 
@@ -48,15 +50,19 @@ IsPlacementText c text = (S : List ℕ) × IsPlaced c S × (text ≡ placement_t
 abbrev pub IsChoiceText : CaseData → List ℕ → Text → Type 0
 IsChoiceText c offers text = (S : List ℕ) × Best (market c) offers S × (text ≡ certificate_text c (certificate (market c).board offers S))
 
--- the text of a command on the case of its folder, where these are the files
-abbrev pub IsCaseText : Files → Command → CaseData → Text → Type 0
-IsCaseText files (place F) c text = IsPlacementText c text
-IsCaseText files (check F) c text = text ≡ check_text c
-IsCaseText files (choose F own) c text = (offers : List ℕ) × (own_of c (get files own) ≡ Ok offers) × IsChoiceText c offers text
+-- the text of a command on the case of its folder and the rows of its own file
+abbrev pub IsCaseText : Kind → CaseData → List Row → Text → Type 0
+IsCaseText kinds.Place c rows text = IsPlacementText c text
+IsCaseText kinds.Check c rows text = text ≡ check_text c
+IsCaseText kinds.Choose c rows text = IsChoiceText c (offers_of c rows) text
 
--- the same where the files are told: the folder is accepted
+-- ---- of every command
+
+-- its text where the files are told: its folder is accepted, and so is its own file
 abbrev pub IsTextOf : Option Files → Command → Text → Type 0
-IsTextOf files command text = IfSome files (λ fs. (c : CaseData) × (market_of fs (folder_in command) ≡ Ok c) × IsCaseText fs command c text)
+IsTextOf files command text =
+    IfSome files (λ fs. (c : CaseData) × (market_of fs (folder_in command) ≡ Ok c) × (own_refusal fs command c ≡ None)
+    × IsCaseText command.kind c (own_rows fs command) text)
 
 -- ---- what `out` gained: some text of the command, or a front of it
 

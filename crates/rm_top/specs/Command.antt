@@ -1,64 +1,88 @@
 -- The commands, by the words of a command line, and the files that they need.
-use Rattle.std.specs.Prelude.{ℕ, List, [], ◌∷◌, ◌==◌, codes, Option, Some, None, Result, Ok, Err, if◌then◌else◌}
+use Rattle.std.specs.Prelude.{ℕ, List, [], ◌∷◌, ◌++◌, ◌==◌, ◌&&◌, codes, get_or, length, option_map, Option, Some, None, Result, Ok, Err, if◌then◌else◌}
 use Rattle.std.specs.FinMap.{get}
 use Rattle.std.specs.Str.{bytes_eq}
+use Rattle.rm_base.specs.Checks.{first_of}
 use Rattle.rm_base.specs.Text.{Text, Files}
 use Rattle.rm_base.specs.declared.Refusal.{Refusal}
 use Rattle.rm_base.specs.declared.codes.TheConstants.{OWN_FILE}
-use Rattle.rm_case.specs.Folder.{file_in}
+use Rattle.rm_table.specs.Rows.{Row}
+use Rattle.rm_case.specs.Folder.{file_checks, file_in, rows_in}
 use Rattle.rm_case.specs.Case.{CaseData, market_of}
-use Rattle.rm_case.specs.Own.{offers_refusal}
-use Rattle.rm_top.specs.declared.command.Command.{Command as Words}
-use Rattle.rm_top.specs.declared.command.Command.TheVariants as words
+use Rattle.rm_case.specs.Own.{offer_table_checks}
+use Rattle.rm_top.specs.declared.command.Kind.{Kind}
+use Rattle.rm_top.specs.declared.command.Kind.TheVariants as kinds
 
--- a command, with the names of its folder and of its own file as given
-pub data Command : Type 0 where
-  place : Text → Command
-  check : Text → Command
-  choose : Text → Text → Command
+abbrev pub usage_text : Text
+usage_text = codes "usage: rm_match place F | check F | choose F OFFERS\n"
+
+-- what a first word asks for, with so many words in all
+abbrev pub kind_of : Text → ℕ → Option Kind
+kind_of word count =
+    if (count == 2) && bytes_eq word (codes "place") then Some kinds.Place
+    else if (count == 2) && bytes_eq word (codes "check") then Some kinds.Check
+    else if (count == 3) && bytes_eq word (codes "choose") then Some kinds.Choose
+    else None
+
+-- which word, counted from 0, names a command's own file
+abbrev pub own_at : Kind → Option ℕ
+own_at kinds.Place = None
+own_at kinds.Check = None
+own_at kinds.Choose = Some 2
+
+-- the checks of the rows of a command's own file; a command without one has none
+abbrev pub rows_checks : Kind → CaseData → List Row → List (Option Refusal)
+rows_checks kinds.Place c rows = []
+rows_checks kinds.Check c rows = []
+rows_checks kinds.Choose c rows = offer_table_checks c rows
+
+-- ---- of every command
+
+-- a command: what it does, and all its words
+pub record Command : Type 0 where
+  pub kind : Kind
+  pub words : List Text
+
+abbrev pub word_at : List Text → ℕ → Text
+word_at words k = get_or words k []
 
 -- the command that the words spell, if they spell one
 abbrev pub command_of : List Text → Option Command
-command_of (word ∷ folder ∷ []) =
-    if bytes_eq word (codes "place") then Some (place folder)
-    else if bytes_eq word (codes "check") then Some (check folder)
-    else None
-command_of (word ∷ folder ∷ own ∷ []) = if bytes_eq word (codes "choose") then Some (choose folder own) else None
-command_of _ = None
-
--- the command that a value of the program stands for
-abbrev pub meant : Words → Command
-meant (words.Place folder) = place folder.now
-meant (words.Check folder) = check folder.now
-meant (words.Choose folder own) = choose folder.now own.now
+command_of words = option_map (λ k. record { kind = k; words = words }) (kind_of (word_at words 0) (length words))
 
 -- the folder of a command, and its own file
 abbrev pub folder_in : Command → Text
-folder_in (place F) = F
-folder_in (check F) = F
-folder_in (choose F own) = F
+folder_in command = word_at command.words 1
 
 abbrev pub own_file_in : Command → Option Text
-own_file_in (place F) = None
-own_file_in (check F) = None
-own_file_in (choose F own) = Some own
+own_file_in command = option_map (word_at command.words) (own_at command.kind)
 
 -- the name of the file of this number that the command may need
 abbrev pub file_of : Command → ℕ → Option Text
 file_of command file = if file == OWN_FILE then own_file_in command else file_in (folder_in command) file
 
+-- the rows of the own file of this name, and the checks before theirs; none where a command has no own file
+abbrev pub rows_of_own : Files → Option Text → List Row
+rows_of_own files None = []
+rows_of_own files (Some name) = rows_in (get files name)
+
+abbrev pub own_checks : Files → Option Text → List (Option Refusal)
+own_checks files None = []
+own_checks files (Some name) = file_checks OWN_FILE (get files name)
+
+abbrev pub own_rows : Files → Command → List Row
+own_rows files command = rows_of_own files (own_file_in command)
+
 -- ---- the first refusal of a command
 
--- that of its own part
+-- that of its own file, and then of the rows of it
 abbrev pub own_refusal : Files → Command → CaseData → Option Refusal
-own_refusal files (place F) c = None
-own_refusal files (check F) c = None
-own_refusal files (choose F own) c = offers_refusal c (get files own)
+own_refusal files command c = first_of (own_checks files (own_file_in command) ++ rows_checks command.kind c (own_rows files command))
 
 abbrev pub refusal_after : Files → Command → Result CaseData Refusal → Option Refusal
 refusal_after files command (Ok c) = own_refusal files command c
 refusal_after files command (Err refusal) = Some refusal
 
--- that of its folder, or else that of its own part
+-- that of its folder, or else that of its own file
 abbrev pub refusal_of : Files → Command → Option Refusal
 refusal_of files command = refusal_after files command (market_of files (folder_in command))

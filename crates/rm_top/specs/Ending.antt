@@ -3,9 +3,9 @@ use Rattle.std.specs.Prelude.{◌≡◌, ℕ, [], Option, Some, None, string_byt
 use Rattle.rm_base.specs.Text.{Text, Files}
 use Rattle.rm_outside.specs.Outside.{HasRisen}
 use Rattle.rm_top.specs.Answers.{written, bad_words, refused, read_failed, write_failed, no_memory, WroteText, WrotePart, IsRefusalText, IsReadFaultText}
-use Rattle.rm_top.specs.Command.{Command}
+use Rattle.rm_top.specs.Command.{Command, usage_text}
 use Rattle.rm_top.specs.Telling.{HasNoRefusal}
-use Rattle.rm_top.specs.Texts.{usage_text, write_fault_text, no_memory_text}
+use Rattle.rm_top.specs.Texts.{write_fault_text, no_memory_text}
 use Rattle.rm_top.specs.declared.ending.Ending.{Ending}
 use Rattle.rm_top.specs.declared.ending.Ending.TheVariants as end
 
@@ -42,7 +42,8 @@ abbrev pub EndsCommand : Seen → Command → Ending → Type 0
 EndsCommand s c end.Written = WroteText s.files (Some c) s.before s.after × HasNoRefusal s.files c
 EndsCommand s c end.BadWords = ⊥
 EndsCommand s c (end.Refused text) = IsRefusalText s.files (Some c) (string_bytes text) × (s.after ≡ s.before)
-EndsCommand s c (end.ReadFailed text) = HasRisen s.shelf_before s.shelf_after × IsReadFaultText s.files s.blame (Some c) (string_bytes text) × (s.after ≡ s.before)
+EndsCommand s c (end.ReadFailed text) = HasRisen s.shelf_before s.shelf_after × IsReadFaultText s.files s.blame (Some c) (string_bytes text)
+    × (s.after ≡ s.before)
 EndsCommand s c end.WriteFailed = HasRisen s.out_before s.out_after × WrotePart s.files (Some c) s.before s.after × HasNoRefusal s.files c
 EndsCommand s c end.NoMemory = s.after ≡ s.before
 

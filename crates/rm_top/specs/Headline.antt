@@ -6,6 +6,8 @@ use Rattle.rm_market.specs.Machine.{State, IsClosed}
 use Rattle.rm_market.specs.Market.{Market, IsList, IsStableIn, IsPlacementOf, replaced, wishes_of}
 use Rattle.rm_market.specs.Laws.{after}
 use Rattle.rm_market.specs.Flexible.{Region, flexible}
+use Rattle.rm_group_laws.specs.Markets.{NoGroupGains, NothingBetterIn, FillsTheSame}
+use Rattle.rm_kamada_kojima_laws.specs.Stability.{IsKKStable}
 use Rattle.rm_policy.specs.Top.{is_flexible}
 use Rattle.rm_case.specs.Case.{CaseData, market, regions}
 
@@ -34,10 +36,16 @@ pub record EndsIn (m : Market) (regions : List Region) (S : List ℕ) : Type 0 w
   pub ends : (ds : List ℕ) → HasEnded m regions ds → (procedure_after m regions ds).held ≡ S
 
 -- S is the placement of the case: feasible, stable for the declared policy, liked best by every doctor among all stable sets, and the only one
--- such. Nobody gains by another list, all stable sets place the same doctors, and with a flexible policy the procedure of its regions ends in S
+-- such. Nobody gains by another list, and no group of doctors by other lists; nothing that is its own best subset is better for all; all stable
+-- sets place the same doctors and fill the outermost nodes alike. With a flexible policy the procedure of its regions ends in S, and S is stable
+-- as Kamada and Kojima say
 pub record IsPlaced (c : CaseData) (S : List ℕ) : Type 0 where
   pub feasible : IsTrue (is_feasible (market c).board S)
   pub placement : IsPlacementOf (market c) S
   pub truthful : NobodyGains (market c) S
+  pub groups : NoGroupGains (market c) S
+  pub efficient : NothingBetterIn (market c) S
   pub same : PlacesTheSame (market c) S
+  pub fills : FillsTheSame (market c) S
   pub flexible : is_flexible c.policy.kind ≡ true → EndsIn (market c) (regions c) S
+  pub kk_stable : is_flexible c.policy.kind ≡ true → IsKKStable (market c) (regions c) S

@@ -4,3 +4,4 @@ pub mod Ending
 pub mod Headline
 pub mod Telling
 pub mod Texts
+pub mod WithoutPolicy

@@ -1,34 +1,38 @@
 -- What there is to tell of a command: its text, or why there is none.
-use Rattle.std.specs.Prelude.{◌≡◌, ℕ, Option, None, Some, IfSome, string_bytes}
+use Rattle.std.specs.Prelude.{◌≡◌, ℕ, List, Option, None, Some, Result, IfSome, string_bytes}
+use Rattle.rm_base.specs.Checks.{first_of}
 use Rattle.rm_base.specs.Text.{Text, Files}
 use Rattle.rm_base.specs.declared.Refusal.{Refusal}
 use Rattle.rm_base.specs.declared.codes.TheConstants.{OWN_FILE}
 use Rattle.rm_outside.specs.Outside.{HasRisen}
+use Rattle.rm_table.specs.Rows.{Row}
 use Rattle.rm_case.specs.Case.{CaseData}
-use Rattle.rm_case.specs.Loading.{HasFailedAt}
+use Rattle.rm_case.specs.Loading.{LoadsData, HasFailedAt}
 use Rattle.rm_case.specs.declared.fault.LoadFault.{LoadFault}
 use Rattle.rm_case.specs.declared.fault.LoadFault.TheVariants as fault
 use Rattle.rm_top.specs.Answers.{FailedOn, IsCaseText, IsTextOf}
-use Rattle.rm_top.specs.Command.{Command, own_file_in, own_refusal, refusal_of}
+use Rattle.rm_top.specs.Command.{Command, own_checks, own_file_in, own_rows, refusal_of, rows_checks}
 use Rattle.rm_top.specs.Texts.{refusal_text, read_fault_text}
+use Rattle.rm_top.specs.declared.command.Kind.{Kind}
 use Rattle.rm_top.specs.declared.ending.Ending.{Ending}
 use Rattle.rm_top.specs.declared.ending.Ending.TheVariants as end
 
 -- ---- of a command on the case of its folder
 
--- nothing of the command's own part is refused, and this is its text
-abbrev pub HasCaseText : Files → Command → CaseData → Text → Type 0
-HasCaseText files command c text = (own_refusal files command c ≡ None) × IsCaseText files command c text
+-- the rows of a command's own file, or the file's first refusal
+abbrev pub LoadsRows : Option Files → Command → Result (List Row) LoadFault → Type 0
+LoadsRows files command result = IfSome files (λ fs. LoadsData (first_of (own_checks fs (own_file_in command))) (own_rows fs command) result)
 
--- the fetch of the command's own file failed
-abbrev pub HasFailedOwn : ℕ → ℕ → Option (Option Text) → Command → ℕ → Type 0
-HasFailedOwn before after blame command file = (name : Text) × (file ≡ OWN_FILE) × (own_file_in command ≡ Some name) × HasFailedAt before after blame name
+-- its own file is not read only where the shelf failed at it
+abbrev pub HasFailedOwn : ℕ → ℕ → Option (Option Text) → Command → LoadFault → Type 0
+HasFailedOwn before after blame command (fault.Refused r) = Unit {0}
+HasFailedOwn before after blame command (fault.Read file) = (name : Text) × (file ≡ OWN_FILE) × (own_file_in command ≡ Some name)
+    × HasFailedAt before after blame name
+HasFailedOwn before after blame command fault.NoMemory = Unit {0}
 
--- why there is no text: the refusal of the command's own part, or its own file that the shelf failed at; memory may be wanting
-abbrev pub StopsOnCase : Option Files → ℕ → ℕ → Option (Option Text) → Command → CaseData → LoadFault → Type 0
-StopsOnCase files before after blame command c (fault.Refused r) = IfSome files (λ fs. own_refusal fs command c ≡ Some r)
-StopsOnCase files before after blame command c (fault.Read file) = HasFailedOwn before after blame command file
-StopsOnCase files before after blame command c fault.NoMemory = Unit {0}
+-- nothing of the rows is refused, and this is the text
+abbrev pub HasCaseText : Kind → CaseData → List Row → Text → Type 0
+HasCaseText kind c rows text = (first_of (rows_checks kind c rows) ≡ None) × IsCaseText kind c rows text
 
 -- ---- of a command
 

@@ -4,9 +4,6 @@ use Rattle.std.specs.List.{concat}
 use Rattle.rm_base.specs.Text.{Text}
 use Rattle.rm_base.specs.declared.Refusal.{Refusal}
 
-abbrev pub usage_text : Text
-usage_text = codes "usage: rm_match place F | check F | choose F OFFERS\n"
-
 unfoldable pub refusal_text : Refusal → Text
 refusal_text r = concat (codes "refused " ∷ decimal r.code ∷ codes " " ∷ decimal r.file ∷ codes " " ∷ decimal r.a ∷ codes " " ∷ decimal r.b ∷ codes "\n" ∷ [])
 

@@ -1,64 +1,107 @@
 // The commands, by the words of a command line.
 
-ghost use Rattle.std.specs.Prelude.{◌≡◌, [], ◌∷◌, map, option_map, string_bytes};
-ghost use Rattle.rm_top.specs.Command.{command_of, folder_in, meant};
+ghost use Rattle.std.specs.Prelude.{◌≡◌, map, option_map, string_bytes};
+ghost use Rattle.rm_top.specs.Command.{command_of, folder_in, kind_of, own_at, own_file_in, word_at};
 
-/// A command, with the name of its folder, and of its own file where it has one.
+use std::marker::Model;
+
+/// The usage line.
+pub const USAGE: &str = "usage: rm_match place F | check F | choose F OFFERS\n";
+
+/// What a command does.
 #[derive(Clone, Copy, Debug)]
-pub enum Command<'a> {
+pub enum Kind {
     /// Place the doctors.
-    Place(&'a str),
+    Place,
     /// Count what the folder holds.
-    Check(&'a str),
-    /// Choose the best of the contracts in a file of offers, the second name.
-    Choose(&'a str, &'a str),
+    Check,
+    /// Choose the best of the contracts in a file of offers.
+    Choose,
 }
 
-impl<'a> Command<'a> {
-    /// The folder of a command.
-    pub fn folder(&self) -> &'a str
-        ensures { result.now ≡ folder_in (meant self.entry.now) }
+// What a first word asks for, with so many words in all.
+fn kind_of(word: &str, count: usize) -> Option<Kind>
+    ensures { result ≡ kind_of word.now count }
+{
+    match count {
+        2 if word == "place" => Some(Kind::Place),
+        2 if word == "check" => Some(Kind::Check),
+        3 if word == "choose" => Some(Kind::Choose),
+        _ => None,
+    }
+}
+
+impl Kind {
+    // Which word, counted from 0, names the command's own file.
+    fn own_at(self) -> Option<usize>
+        ensures { result ≡ own_at self }
     {
-        match *self {
-            Command::Place(folder) => folder,
-            Command::Check(folder) => folder,
-            Command::Choose(folder, _) => folder,
+        match self {
+            Kind::Choose => Some(2),
+            _ => None,
         }
     }
 }
 
-// The command of two words.
-fn folder_command<'a>(word: &str, folder: &'a str) -> Option<Command<'a>>
-    ensures { option_map meant result ≡ command_of (word.now ∷ folder.entry.now ∷ []) }
+// The word of this number, counted from 0; the empty one past the last.
+fn word_at(words: &[String], k: usize) -> &str
+    ensures { result.now ≡ word_at (map string_bytes words.now) k }
 {
-    if word == "place" {
-        return Some(Command::Place(folder));
+    if k < words.len() {
+        words[k].as_str()
+    } else {
+        ""
     }
-    if word == "check" {
-        return Some(Command::Check(folder));
-    }
-    None
 }
 
-// The command of three words.
-fn own_file_command<'a>(word: &str, folder: &'a str, own: &'a str) -> Option<Command<'a>>
-    ensures { option_map meant result ≡ command_of (word.now ∷ folder.entry.now ∷ own.entry.now ∷ []) }
-{
-    if word == "choose" {
-        return Some(Command::Choose(folder, own));
-    }
-    None
+/// A command: what it does, and all its words.
+#[derive(Drop)]
+pub struct Command<'a> {
+    kind: Kind,
+    words: &'a [String],
 }
 
-/// The command that the words after the program's name spell. None exactly where they spell none.
-pub fn command_of(words: &[String]) -> Option<Command<'_>>
-    ensures { option_map meant result ≡ command_of (map string_bytes words.now) }
-{
-    if words.len() == 2 {
-        return folder_command(words[0].as_str(), words[1].as_str());
+impl<'a> Model for Command<'a> {
+    ghost use Rattle.std.specs.Prelude.{map, string_bytes};
+    ghost use Rattle.rm_top.specs.Command.{Command as Meant};
+
+    ghost Value = { Meant };
+
+    ghost view = { λ c. record { kind = c.kind; words = map string_bytes c.words.now } };
+}
+
+impl<'a> Command<'a> {
+    /// The command that the words after the program's name spell. None exactly where they spell none.
+    pub fn new(words: &'a [String]) -> Option<Command<'a>>
+        ensures { result ≡ command_of (map string_bytes words.now) }
+    {
+        match kind_of(word_at(words, 0), words.len()) {
+            Some(kind) => Some(Command { kind, words }),
+            None => None,
+        }
     }
-    if words.len() == 3 {
-        return own_file_command(words[0].as_str(), words[1].as_str(), words[2].as_str());
+
+    /// What it does.
+    pub fn kind(&self) -> Kind
+        ensures { result ≡ self.now.kind }
+    {
+        self.kind
     }
-    None
+
+    /// Its folder, the word after its own.
+    pub fn folder(&self) -> &'a str
+        ensures { result.now ≡ folder_in self.now }
+    {
+        word_at(self.words, 1)
+    }
+
+    /// Its own file, where it has one.
+    pub fn own_file(&self) -> Option<&'a str>
+        ensures { option_map (λ s. s.now) result ≡ own_file_in self.now }
+    {
+        match self.kind.own_at() {
+            Some(k) => Some(word_at(self.words, k)),
+            None => None,
+        }
+    }
 }

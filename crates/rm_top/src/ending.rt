@@ -5,7 +5,8 @@ ghost use Rattle.rm_top.specs.Answers.{Reports};
 ghost use Rattle.rm_top.specs.Ending.{status_of, text_of};
 ghost use Rattle.rm_top.specs.Telling.{SaysWhy};
 
-use crate::texts::{USAGE, read_fault_text, refusal_text};
+use crate::command::USAGE;
+use crate::texts::{read_fault_text, refusal_text};
 use rm_case::LoadFault;
 use rm_outside::Sink;
 use std::alloc::Global;

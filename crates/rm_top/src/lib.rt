@@ -5,7 +5,7 @@ ghost use Rattle.std.specs.Prelude.{◌≡◌, ◌≢◌, ◌≤◌, ◌↔◌, 
 ghost use Rattle.rm_base.specs.Text.{Text};
 ghost use Rattle.rm_outside.specs.Outside.{HasRisen};
 ghost use Rattle.rm_top.specs.Answers.{written, bad_words, read_failed, write_failed, no_memory, WroteText, WrotePart, IsRefusedWhere, Reports, IsErrorText, IsComplete};
-ghost use Rattle.rm_top.specs.Command.{command_of, meant};
+ghost use Rattle.rm_top.specs.Command.{command_of};
 ghost use Rattle.rm_top.specs.Ending.{Ends, EndsCommand};
 
 mod choosing;
@@ -14,13 +14,15 @@ mod ending;
 mod output;
 mod telling;
 mod texts;
+mod without_policy;
 
-use command::{Command, command_of};
+use command::Command;
 use ending::{Ending, report};
 use output::put_text;
 use rm_outside::{Shelf, Sink};
 use std::alloc::{AllocError, Global};
 use telling::text_of;
+pub use without_policy::stable_without_policy;
 
 /// Want of memory, where it is the only refusal.
 pub type NoMemory = AllocError;
@@ -28,11 +30,20 @@ pub type NoMemory = AllocError;
 // Does what a command says.
 fn answer<S: Shelf, O: Sink>(
     alloc: Global,
-    command: Command<'_>,
+    command: &Command<'_>,
     shelf: &mut S,
     out: &mut O,
 ) -> Ending
-    ensures ends { EndsCommand (record { files = S.files shelf.old; blame = S.blame shelf.new; shelf_before = S.faults shelf.old; shelf_after = S.faults shelf.new; out_before = O.faults out.old; out_after = O.faults out.new; before = O.written out.old; after = O.written out.new }) (meant command.entry) result }
+    ensures ends { EndsCommand (record {
+      files = S.files shelf.old;
+      blame = S.blame shelf.new;
+      shelf_before = S.faults shelf.old;
+      shelf_after = S.faults shelf.new;
+      out_before = O.faults out.old;
+      out_after = O.faults out.new;
+      before = O.written out.old;
+      after = O.written out.new;
+    }) command.now result }
     ensures files { S.files shelf.new ≡ S.files shelf.old }
 {
     match text_of(alloc, command, shelf) {
@@ -46,11 +57,20 @@ fn answer<S: Shelf, O: Sink>(
 
 // Does what the words say.
 fn perform<S: Shelf, O: Sink>(alloc: Global, words: &[String], shelf: &mut S, out: &mut O) -> Ending
-    ensures ends { Ends (record { files = S.files shelf.old; blame = S.blame shelf.new; shelf_before = S.faults shelf.old; shelf_after = S.faults shelf.new; out_before = O.faults out.old; out_after = O.faults out.new; before = O.written out.old; after = O.written out.new }) (command_of (map string_bytes words.now)) result }
+    ensures ends { Ends (record {
+      files = S.files shelf.old;
+      blame = S.blame shelf.new;
+      shelf_before = S.faults shelf.old;
+      shelf_after = S.faults shelf.new;
+      out_before = O.faults out.old;
+      out_after = O.faults out.new;
+      before = O.written out.old;
+      after = O.written out.new;
+    }) (command_of (map string_bytes words.now)) result }
     ensures files { S.files shelf.new ≡ S.files shelf.old }
 {
-    match command_of(words) {
-        Some(command) => answer(alloc, command, shelf, out),
+    match Command::new(words) {
+        Some(command) => answer(alloc, &command, shelf, out),
         None => Ending::BadWords,
     }
 }

@@ -1,16 +1,19 @@
 // The text of a command.
 
-ghost use Rattle.std.specs.Prelude.{◌≡◌, ◌≤◌, IfErr, IfOk, IfSome};
+ghost use Rattle.std.specs.Prelude.{◌≡◌, ◌≤◌, IfErr, IfOk};
+ghost use Rattle.rm_base.specs.Checks.{first_of};
+ghost use Rattle.rm_base.specs.Reading.{Stops};
 ghost use Rattle.rm_top.specs.Answers.{IsPlacementText};
-ghost use Rattle.rm_top.specs.Command.{meant};
-ghost use Rattle.rm_top.specs.Telling.{StopsWith, StopsOnCase, HasText, HasCaseText};
+ghost use Rattle.rm_top.specs.Command.{rows_checks};
+ghost use Rattle.rm_top.specs.Telling.{HasFailedOwn, HasCaseText, HasText, LoadsRows, StopsWith};
 
 use crate::NoMemory;
 use crate::choosing::choose_text;
-use crate::command::Command;
-use rm_case::{Case, LoadFault};
+use crate::command::{Command, Kind};
+use rm_case::{Case, LoadFault, OwnFault, fetch_own};
 use rm_outside::Shelf;
 use rm_report::{check_text, placement_text};
+use rm_table::Table;
 use std::alloc::Global;
 
 // The text of the placement of a case.
@@ -21,26 +24,39 @@ fn place_text(alloc: Global, case: &Case) -> Result<Vec<u8>, NoMemory>
     placement_text(alloc, case, &places)
 }
 
-// The text of a command on the case of its folder.
-fn text_on<S: Shelf>(
-    alloc: Global,
-    command: Command<'_>,
-    case: &Case,
-    shelf: &mut S,
-) -> Result<Vec<u8>, LoadFault>
-    ensures text { IfOk result (λ text. IfSome (S.files shelf.old) (λ fs. HasCaseText fs (meant command.entry) case.now text.items)) }
-    ensures stops { IfErr result (λ fault. StopsOnCase (S.files shelf.old) (S.faults shelf.old) (S.faults shelf.new) (S.blame shelf.new) (meant command.entry) case.now fault) }
-    ensures files { S.files shelf.new ≡ S.files shelf.old }
-    ensures later { S.faults shelf.old ≤ S.faults shelf.new }
+// The text of what a command does on the case of its folder and the table of its own file.
+fn text_on(alloc: Global, kind: Kind, case: &Case, own: &Table) -> Result<Vec<u8>, OwnFault>
+    ensures text { IfOk result (λ text. HasCaseText kind case.now own.now text.items) }
+    ensures stops { IfErr result (Stops (first_of (rows_checks kind case.now own.now))) }
 {
-    let made = match command {
-        Command::Place(_) => place_text(alloc, case),
-        Command::Check(_) => check_text(alloc, case),
-        Command::Choose(_, own) => return choose_text(alloc, case, shelf, own),
+    let made = match kind {
+        Kind::Place => place_text(alloc, case),
+        Kind::Check => check_text(alloc, case),
+        Kind::Choose => return choose_text(alloc, case, own),
     };
     match made {
         Ok(text) => Ok(text),
-        Err(_) => Err(LoadFault::NoMemory),
+        Err(_) => Err(OwnFault::NoMemory),
+    }
+}
+
+// The table of a command's own file, which has no rows where it has no such file.
+fn own_table<S: Shelf>(
+    alloc: Global,
+    command: &Command<'_>,
+    shelf: &mut S,
+) -> Result<Table, LoadFault>
+    ensures loads { LoadsRows (S.files shelf.old) command.now result }
+    ensures fails { IfErr result (HasFailedOwn (S.faults shelf.old) (S.faults shelf.new) (S.blame shelf.new) command.now) }
+    ensures files { S.files shelf.new ≡ S.files shelf.old }
+    ensures later { S.faults shelf.old ≤ S.faults shelf.new }
+{
+    match command.own_file() {
+        Some(name) => fetch_own(alloc, shelf, name),
+        None => match Table::read(alloc, b"") {
+            Ok(table) => Ok(table),
+            Err(_) => Err(LoadFault::NoMemory),
+        },
     }
 }
 
@@ -48,16 +64,24 @@ fn text_on<S: Shelf>(
 /// failed at, or want of memory.
 pub fn text_of<S: Shelf>(
     alloc: Global,
-    command: Command<'_>,
+    command: &Command<'_>,
     shelf: &mut S,
 ) -> Result<Vec<u8>, LoadFault>
-    ensures text { IfOk result (λ text. HasText (S.files shelf.old) (meant command.entry) text.items) }
-    ensures stops { IfErr result (λ fault. StopsWith (S.files shelf.old) (S.faults shelf.old) (S.faults shelf.new) (S.blame shelf.new) (meant command.entry) fault) }
+    ensures text { IfOk result (λ text. HasText (S.files shelf.old) command.now text.items) }
+    ensures stops { IfErr result (StopsWith (S.files shelf.old) (S.faults shelf.old) (S.faults shelf.new) (S.blame shelf.new) command.now) }
     ensures files { S.files shelf.new ≡ S.files shelf.old }
 {
     let case = match Case::load(alloc, shelf, command.folder()) {
         Ok(case) => case,
         Err(fault) => return Err(fault),
     };
-    text_on(alloc, command, &case, shelf)
+    let own = match own_table(alloc, command, shelf) {
+        Ok(own) => own,
+        Err(fault) => return Err(fault),
+    };
+    match text_on(alloc, command.kind(), &case, &own) {
+        Ok(text) => Ok(text),
+        Err(OwnFault::Refused(refusal)) => Err(LoadFault::Refused(refusal)),
+        Err(OwnFault::NoMemory) => Err(LoadFault::NoMemory),
+    }
 }

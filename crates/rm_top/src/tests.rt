@@ -73,6 +73,20 @@ const CHOSEN: Row<'static> = Row {
     ..STEPS
 };
 
+const FULL: Row<'static> = Row {
+    name: "a full node of each kind",
+    hospitals: b"hospital,prefecture,capacity,target\nH1,P,1,0\nH2,Q,2,0\nH3,R,2,0\n",
+    doctors: b"doctor,choices\nA,H1\nB,H1\n",
+    ranks: Some(b"hospital,doctors\nH1,A,B\nH2,A,B\nH3,A,B\n"),
+    policy: Some(
+        b"version = 1\nkind = \"steps\"\n[[prefecture]]\nname = \"Q\"\ncap = 1\n[[group]]\nname = \"G\"\nhospitals = [\"H3\"]\ncap = 1\n",
+    ),
+    offers: Some(b"doctor,hospital\nA,H1\nB,H1\nA,H2\nB,H2\nA,H3\nB,H3\n"),
+    out: b"doctor,hospital,answer,change,full,swap_doctor,swap_hospital,swap_change\nA,H1,kept,0,,,,\nB,H1,refused,,hospital H1,A,H1,0\n\
+        A,H2,kept,0,,,,\nB,H2,refused,,prefecture Q,A,H2,0\nA,H3,kept,0,,,,\nB,H3,refused,,group G,A,H3,0\n",
+    ..CHOSEN
+};
+
 const REFUSED: Row<'static> = Row {
     name: "a choice of no hospital",
     doctors: b"doctor,choices\nA,H1,H9\n",
@@ -111,7 +125,7 @@ const UNWRITTEN: Row<'static> = Row {
     ..PLACED
 };
 
-static WRITTEN_ROWS: [Row<'static>; 9] = [
+static WRITTEN_ROWS: [Row<'static>; 11] = [
     PLACED,
     Row {
         name: "no doctors and no ranks",
@@ -149,7 +163,17 @@ static WRITTEN_ROWS: [Row<'static>; 9] = [
         out: b"kind flexible\nties by-rank\nhospitals 2\ndoctors 2\ncontracts 3\nlisted 3\nnodes 3\ndepth 2\n",
         ..FLEXIBLE
     },
+    Row {
+        name: "counts with a listed tie order",
+        words: &["check", "F"],
+        policy: Some(
+            b"version = 1\nkind = \"steps\"\nties = \"listed\"\nlisted = [[\"A\", \"H2\"]]\n",
+        ),
+        out: b"kind steps\nties listed\nhospitals 2\ndoctors 1\ncontracts 1\nlisted 1\nnodes 2\ndepth 1\n",
+        ..PLACED
+    },
     CHOSEN,
+    FULL,
 ];
 
 static REFUSED_ROWS: [Row<'static>; 10] = [
@@ -330,6 +354,12 @@ fn refuses_files(rt: HostRuntime) -> Result<(), Fail> {
 fn ends_at_the_first_fault(rt: HostRuntime) -> Result<(), Fail> {
     assert_eq!(rt; first_wrong(rt.alloc(), &FAILED_ROWS)?, None);
     Ok(())
+}
+
+#[test]
+fn says_want_of_memory(rt: HostRuntime) {
+    let ending = Ending::NoMemory;
+    assert!(rt; ending.text() == "no memory\n" && ending.status() == 6);
 }
 
 // A header and a row for each of 600 doctors, each row with this end.

@@ -7,9 +7,6 @@ use crate::NoMemory;
 use rm_base::Refusal;
 use std::alloc::Global;
 
-/// The usage line.
-pub const USAGE: &str = "usage: rm_match place F | check F | choose F OFFERS\n";
-
 /// The text that names a refusal.
 #[tactic(auto, unfolding(crate::specs::Texts::refusal_text))]
 pub fn refusal_text(alloc: Global, refusal: &Refusal) -> Result<String, NoMemory>

@@ -113,9 +113,6 @@ pub record IsGained (b : Board) (counts chain : List ℕ) (i : ℕ) (sum : ℤ) 
   pub summed : IsSummed (next_at b counts chain) i sum
   pub free : (j : ℕ) → j < i → get_or counts (get_or chain j 0) 0 < length (node_at b (get_or chain j 0)).steps
 
-pub none_gained : (b : Board) (counts chain : List ℕ) → IsGained b counts chain 0 (pos 0)
-none_gained b counts chain = record { summed = none_summed (next_at b counts chain); free = λ j lt. absurd (omega arith) }
-
 pub one_gained : (b : Board) (counts chain : List ℕ) (i : ℕ) (sum step : ℤ) → IsGained b counts chain i sum → InRange step
     → slice_get (node_at b (get_or chain i 0)).steps (get_or counts (get_or chain i 0) 0) ≡ Some step → IsGained b counts chain (i + 1) (sum +ℤ step)
 one_gained b counts chain i sum step s r e =

@@ -78,9 +78,6 @@ pub record IsTotal (g : ℕ → ℤ) (i : ℕ) (sum : ℤ) : Type 0 where
   pub low : (pos 0 -ℤ pos (i * 2 ^ 60)) ≤ℤ sum
   pub high : sum ≤ℤ pos (i * 2 ^ 60)
 
-pub none_total : (g : ℕ → ℤ) → IsTotal g 0 (pos 0)
-none_total g = record { same = refl; low = omega (arith, ints); high = omega (arith, ints) }
-
 pub one_total : (g : ℕ → ℤ) (i : ℕ) (sum part : ℤ) → IsTotal g i sum → part ≡ g i → (pos 0 -ℤ pos (2 ^ 60)) ≤ℤ part → part ≤ℤ pos (2 ^ 60) → IsTotal g (i + 1) (sum +ℤ part)
 one_total g i sum part s e l h = rw (add-one i) (record {
   same = let same = s.same in omega (arith, ints);

@@ -31,7 +31,8 @@ fn chain(board: &Board, x: u32) -> &[u32]
 fn raise(counts: &mut [u32], places: &[u32])
     requires { All (λ k. k < length counts.old) places.now }
     ensures length { length counts.new ≡ length counts.old }
-    ensures numbers { (k : ℕ) → k < length counts.old → slice_index counts.new k ≡ min (slice_index counts.old k + count_by (λ p. p == k) places.now) 4294967295 }
+    ensures numbers { (k : ℕ) → k < length counts.old
+        → slice_index counts.new k ≡ min (slice_index counts.old k + count_by (λ p. p == k) places.now) 4294967295 }
 {
     for i in 0..places.len() {
         let place = places[i] as usize;
@@ -66,7 +67,8 @@ pub fn count_in(board: &Board, counts: &mut [u32], x: u32)
     requires contract { x < contract_count board.now }
     requires nodes { length counts.old ≡ length board.now.nodes }
     ensures nodes { length counts.new ≡ length board.now.nodes }
-    ensures counts { (S : List ℕ) → IsSetBelow (contract_count board.now) S → IsFalse (has x S) → AreCounts board.now S counts.old → AreCounts board.now (with_one S x) counts.new }
+    ensures counts { (S : List ℕ) → IsSetBelow (contract_count board.now) S → IsFalse (has x S) → AreCounts board.now S counts.old
+        → AreCounts board.now (with_one S x) counts.new }
 {
     let contracts = board.contracts();
     prove!(x < contracts);
@@ -78,7 +80,8 @@ pub fn count_out(board: &Board, counts: &mut [u32], z: u32)
     requires contract { z < contract_count board.now }
     requires nodes { length counts.old ≡ length board.now.nodes }
     ensures nodes { length counts.new ≡ length board.now.nodes }
-    ensures counts { (S : List ℕ) → IsSetBelow (contract_count board.now) S → IsIn z S → AreCounts board.now S counts.old → AreCounts board.now (without S z) counts.new }
+    ensures counts { (S : List ℕ) → IsSetBelow (contract_count board.now) S → IsIn z S → AreCounts board.now S counts.old
+        → AreCounts board.now (without S z) counts.new }
 {
     lower(counts, chain(board, z));
 }
@@ -163,7 +166,8 @@ pub fn gain(board: &Board, counts: &[u32], x: u32) -> Option<i64>
 pub fn loss(board: &Board, counts: &[u32], z: u32) -> i64
     requires contract { z < contract_count board.now }
     requires nodes { length counts.now ≡ length board.now.nodes }
-    ensures change { (S : List ℕ) → IsSet S → IsIn z S → IsTrue (is_feasible board.now S) → AreCounts board.now S counts.now → result ≡ worth board.now S -ℤ worth board.now (without S z) }
+    ensures change { (S : List ℕ) → IsSet S → IsIn z S → IsTrue (is_feasible board.now S) → AreCounts board.now S counts.now
+        → result ≡ worth board.now S -ℤ worth board.now (without S z) }
     ensures low { (pos 0 -ℤ pos (2 ^ 62)) <ℤ result }
     ensures high { result <ℤ pos (2 ^ 62) }
 {

@@ -42,11 +42,3 @@ place_from_before x y (z ∷ zs) d h =
     let rest = place_from_before x y zs (IsDistinct-tail eqb z zs d) t in
     omega arith)
     (cases_eq z x)
-
-some_same : (b : Bool) (n k : ℕ) → cond b (Some n) None ≡ Some k → n ≡ k
-some_same true n k e = grind rules
-some_same false n k e = grind rules
-
--- where a contract is found is its place
-pub place_is : (ties : List ℕ) (x k : ℕ) → position (λ y. eqb y x) ties ≡ Some k → place ties x ≡ k
-place_is ties x k e = some_same (ltb (position_or_len (λ y. eqb y x) ties) (length ties)) (position_or_len (λ y. eqb y x) ties) k e

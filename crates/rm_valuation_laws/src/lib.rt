@@ -44,7 +44,8 @@ pub fn one_offer()
     ensures best { OfferAnswerIsBest }
 {}
 
-/// How the outcomes of an offer compare: by worth, and at equal worth an addition wins, and a swap exactly where the offer stands before the displaced contract.
+/// How the outcomes of an offer compare: by worth, and at equal worth an addition wins, and a swap exactly where the offer stands
+/// before the displaced contract.
 pub fn one_decision()
     ensures addition { AdditionBeatsSwap }
     ensures swap { SwapBeatsHeld }
@@ -79,7 +80,8 @@ pub fn feasible_changes()
     ensures no_swap { FullNodeStopsSwap }
 {}
 
-/// An offer needs to look at no contract outside its innermost full node, or outside its outermost node where none is full; and which of the contracts at one step of that walk it displaces.
+/// An offer needs to look at no contract outside its innermost full node, or outside its outermost node where none is full; and
+/// which of the contracts at one step of that walk it displaces.
 pub fn one_walk()
     ensures ends { WalkMayEnd }
     ensures step { SameNodesAtOneStep }

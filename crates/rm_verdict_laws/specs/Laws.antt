@@ -18,7 +18,8 @@ use Rattle.rm_verdict_laws.specs.Findings.{IsFinding}
 
 -- the verdict on a chosen subset S of X is the one that says what holds
 abbrev pub VerdictsHold : Board → Type 0
-VerdictsHold b = (X S : List ℕ) (verdict : Verdict) → IsSetBelow (contract_count b) X → IsSet S → IsWithin S X → (verdict_of b X S ≡ verdict) ↔ IsVerdict b X S verdict
+VerdictsHold b = (X S : List ℕ) (verdict : Verdict) → IsSetBelow (contract_count b) X → IsSet S → IsWithin S X
+    → (verdict_of b X S ≡ verdict) ↔ IsVerdict b X S verdict
 
 -- it is `Best` exactly where S is the best subset of X
 abbrev pub BestWhereBest : Board → Type 0
@@ -30,7 +31,8 @@ OverWhereInfeasible b S = IsFalse (is_feasible b S) ↔ ((k : ℕ) × IsLeastOve
 
 -- the rows of a certificate are those that say what holds, where S is feasible, as the best subset of the offers is
 abbrev pub RowsHold : Board → Type 0
-RowsHold b = (S offers : List ℕ) (rows : List CertRow) → IsSetBelow (contract_count b) S → IsTrue (is_feasible b S) → ((x : ℕ) → IsIn x offers → x < contract_count b)
+RowsHold b = (S offers : List ℕ) (rows : List CertRow) → IsSetBelow (contract_count b) S → IsTrue (is_feasible b S)
+    → ((x : ℕ) → IsIn x offers → x < contract_count b)
     → (certificate b offers S ≡ rows) ↔ AreRowsOf b S offers rows
 
 -- the finding on a placement is the one that says what holds

@@ -1,43 +1,42 @@
-// Folders in memory.
+// A folder in memory.
 
-use crate::Case;
+use crate::{Case, LoadFault};
 use rm_base::NoMemory;
 use rm_outside::memory::SteadyShelf;
 use std::alloc::Global;
 
-/// The texts of a folder's files.
-#[derive(Clone, Copy)]
-pub struct Folder<'a> {
-    pub hospitals: &'a [u8],
-    pub doctors: &'a [u8],
-    pub ranks: &'a [u8],
-    pub policy: Option<&'a [u8]>,
-}
+// The files of a folder F, whose prefecture has one seat and an order with H1 first, and a file of offers. The contracts are 0 of A
+// and H1, 1 of B and H1, and 2 of A and H2.
+static FILES: [(&str, &[u8]); 5] = [
+    (
+        "F/hospitals.csv",
+        b"hospital,prefecture,capacity,target\nH1,P,1,0\nH2,P,1,0\n",
+    ),
+    ("F/doctors.csv", b"doctor,choices\nA,H2,H1\nB,H1\n"),
+    ("F/ranks.csv", b"hospital,doctors\nH1,A,B\nH2,A\n"),
+    (
+        "F/policy.toml",
+        b"version = 1\nkind = \"flexible\"\n[[prefecture]]\nname = \"P\"\ncap = 1\norder = [\"H1\", \"H2\"]\n",
+    ),
+    ("offers.csv", b"doctor,hospital\nA,H2\nB,H1\n"),
+];
 
-// Adds the files of a folder F.
-fn add_files(shelf: &mut SteadyShelf, folder: &Folder<'_>) -> Result<(), NoMemory> {
-    shelf.add("F/hospitals.csv", folder.hospitals)?;
-    shelf.add("F/doctors.csv", folder.doctors)?;
-    shelf.add("F/ranks.csv", folder.ranks)?;
-    match folder.policy {
-        Some(policy) => shelf.add("F/policy.toml", policy),
-        None => Ok(()),
-    }
-}
-
-// The case of a folder whose files are added to a shelf.
-fn load(alloc: Global, shelf: &mut SteadyShelf, folder: &Folder<'_>) -> Option<Case> {
-    if add_files(shelf, folder).is_err() {
-        return None;
-    }
-    match Case::load(alloc, shelf, "F") {
-        Ok(case) => Some(case),
-        Err(_) => None,
-    }
-}
-
-/// The case of a folder. None where it is refused, or memory is wanting.
-pub fn case_of(alloc: Global, folder: &Folder<'_>) -> Option<Case> {
+/// A shelf with these files.
+pub fn shelf_of(alloc: Global) -> Result<SteadyShelf, NoMemory> {
     let mut shelf = SteadyShelf::new(alloc);
-    load(alloc, &mut shelf, folder)
+    for (name, bytes) in FILES {
+        shelf.add(name, bytes)?;
+    }
+    Ok(shelf)
+}
+
+/// The case of the folder.
+pub fn case_of(alloc: Global) -> Result<Case, LoadFault> {
+    let Ok(mut shelf) = shelf_of(alloc) else {
+        return Err(LoadFault::NoMemory);
+    };
+    match Case::load(alloc, &mut shelf, "F") {
+        Ok(case) => Ok(case),
+        Err(fault) => Err(fault),
+    }
 }

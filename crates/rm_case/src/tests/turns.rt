@@ -6,7 +6,7 @@ ghost use Rattle.rm_market.specs.Laws.{AreWishes};
 ghost use Rattle.rm_rounds.specs.Desk.{wishes};
 ghost use Rattle.rm_valuation.specs.Counts.{IsMarketBoard};
 
-use super::folders::{Folder, case_of};
+use super::folders::case_of;
 use crate::Case;
 use rm_base::NoMemory;
 use rm_board::Board;
@@ -17,16 +17,6 @@ use rm_ranks::Lists;
 use rm_rounds::{Desk, Turn};
 use std::alloc::Global;
 use std::test::Fail;
-
-// The prefecture has one seat, and its order has H1 first. The contracts are 0 of A and H1, 1 of B and H1, and 2 of A and H2.
-const ONE_SEAT: Folder<'static> = Folder {
-    hospitals: b"hospital,prefecture,capacity,target\nH1,P,1,0\nH2,P,1,0\n",
-    doctors: b"doctor,choices\nA,H2,H1\nB,H1\n",
-    ranks: b"hospital,doctors\nH1,A,B\nH2,A\n",
-    policy: Some(
-        b"version = 1\nkind = \"flexible\"\n[[prefecture]]\nname = \"P\"\ncap = 1\norder = [\"H1\", \"H2\"]\n",
-    ),
-};
 
 // A doctor whose turn it is, and what his turn does.
 #[derive(Clone, Copy)]
@@ -39,62 +29,62 @@ const A: u32 = 0;
 
 const B: u32 = 1;
 
+// A's turn, in which he offers this contract.
+const A_KEPT: Event = Event {
+    doctor: A,
+    turn: Turn::Moved {
+        x: 2,
+        outcome: Outcome::Kept,
+    },
+};
+
+const A_REFUSED: Event = Event {
+    doctor: A,
+    turn: Turn::Moved {
+        x: 2,
+        outcome: Outcome::Refused,
+    },
+};
+
+const A_IN_PLACE_OF_B: Event = Event {
+    doctor: A,
+    turn: Turn::Moved {
+        x: 0,
+        outcome: Outcome::Swapped(1),
+    },
+};
+
+const A_IDLE: Event = Event {
+    doctor: A,
+    turn: Turn::Idle,
+};
+
+// B's turn.
+const B_KEPT: Event = Event {
+    doctor: B,
+    turn: Turn::Moved {
+        x: 1,
+        outcome: Outcome::Kept,
+    },
+};
+
+const B_IN_PLACE_OF_A: Event = Event {
+    doctor: B,
+    turn: Turn::Moved {
+        x: 1,
+        outcome: Outcome::Swapped(2),
+    },
+};
+
+const B_DONE: Event = Event {
+    doctor: B,
+    turn: Turn::Done,
+};
+
 // The events at a desk that was just opened. After each row the desk is closed, A's place is contract 0, and B has none.
 static ROWS: [&[Event]; 2] = [
-    &[
-        Event {
-            doctor: A,
-            turn: Turn::Moved {
-                x: 2,
-                outcome: Outcome::Kept,
-            },
-        },
-        Event {
-            doctor: B,
-            turn: Turn::Moved {
-                x: 1,
-                outcome: Outcome::Swapped(2),
-            },
-        },
-        Event {
-            doctor: A,
-            turn: Turn::Moved {
-                x: 0,
-                outcome: Outcome::Swapped(1),
-            },
-        },
-        Event {
-            doctor: B,
-            turn: Turn::Done,
-        },
-    ],
-    &[
-        Event {
-            doctor: B,
-            turn: Turn::Moved {
-                x: 1,
-                outcome: Outcome::Kept,
-            },
-        },
-        Event {
-            doctor: A,
-            turn: Turn::Moved {
-                x: 2,
-                outcome: Outcome::Refused,
-            },
-        },
-        Event {
-            doctor: A,
-            turn: Turn::Moved {
-                x: 0,
-                outcome: Outcome::Swapped(1),
-            },
-        },
-        Event {
-            doctor: A,
-            turn: Turn::Idle,
-        },
-    ],
+    &[A_KEPT, B_IN_PLACE_OF_A, A_IN_PLACE_OF_B, B_DONE],
+    &[B_KEPT, A_REFUSED, A_IN_PLACE_OF_B, A_IDLE],
 ];
 
 // Whether the events at a desk of so many doctors do what is wanted.
@@ -197,9 +187,9 @@ fn case_holds(alloc: Global, case: &Case) -> bool {
 
 // The same on the board of the folder.
 fn folder_holds(alloc: Global) -> bool {
-    match case_of(alloc, &ONE_SEAT) {
-        Some(case) => case_holds(alloc, &case),
-        None => false,
+    match case_of(alloc) {
+        Ok(case) => case_holds(alloc, &case),
+        Err(_) => false,
     }
 }
 

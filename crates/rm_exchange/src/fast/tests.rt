@@ -1,4 +1,4 @@
-// Offers to fast holders, on boards whose groups hold the first hospitals, and the same offers to holders that choose anew.
+// Offers to fast holders, on boards whose groups hold the first hospitals.
 
 ghost use Rattle.std.specs.Prelude.{◌≡◌, ◌<◌, ◌≤◌, ℕ, None, All, IfOk, length};
 ghost use Rattle.std.specs.List.{sum_by};
@@ -9,8 +9,7 @@ ghost use Rattle.rm_valuation.specs.Counts.{IsMarketBoard};
 
 use crate::FastHolder;
 use rm_board::{Board, TieRule};
-use rm_choice::{ChoiceHolder, Holder, NoMemory, Outcome};
-use rm_greedy::Greedy;
+use rm_choice::{Holder, NoMemory, Outcome};
 use rm_laminar::Tree;
 use rm_market::Run;
 use rm_ranks::{Lists, ListsBuilder};
@@ -118,7 +117,7 @@ fn board_of_row(alloc: Global, row: &Row) -> Result<Board, NoMemory>
 }
 
 // What an offer of x does. None where there is no such contract, or it is held.
-fn offered<H: Holder>(holder: &mut H, x: u32) -> Option<Outcome> {
+fn offered(holder: &mut FastHolder<'_>, x: u32) -> Option<Outcome> {
     if x >= holder.contracts() || holder.holds(x) {
         return None;
     }
@@ -126,7 +125,7 @@ fn offered<H: Holder>(holder: &mut H, x: u32) -> Option<Outcome> {
 }
 
 // Hospital h has the contracts 2h and 2h + 1.
-const ROWS: [Row; 3] = [
+const ROWS: [Row; 2] = [
     Row {
         hospitals: 2,
         sizes: &[2],
@@ -179,58 +178,6 @@ const ROWS: [Row; 3] = [
             (0, Outcome::Swapped(1)),
         ],
     },
-    Row {
-        hospitals: 5,
-        sizes: &[2, 3, 5, 3],
-        runs: &[
-            Run {
-                value: 4,
-                fall: 2,
-                count: 2,
-            },
-            Run {
-                value: 3,
-                fall: 1,
-                count: 2,
-            },
-            Run {
-                value: 5,
-                fall: 5,
-                count: 2,
-            },
-            Run {
-                value: 2,
-                fall: 0,
-                count: 1,
-            },
-            Run {
-                value: 6,
-                fall: 3,
-                count: 2,
-            },
-            Run {
-                value: 0,
-                fall: 1,
-                count: 3,
-            },
-            Run {
-                value: 1,
-                fall: 2,
-                count: 4,
-            },
-            Run {
-                value: 2,
-                fall: 2,
-                count: 5,
-            },
-            Run {
-                value: 0,
-                fall: 0,
-                count: 3,
-            },
-        ],
-        offers: &[(0, Outcome::Kept), (8, Outcome::Kept)],
-    },
 ];
 
 // Whether the offers of a row do what the row says.
@@ -250,28 +197,6 @@ fn answers(alloc: Global, row: &Row) -> Result<bool, NoMemory> {
 fn answers_offers(rt: HostRuntime) -> Result<(), Fail> {
     for row in &ROWS {
         assert!(rt; answers(rt.alloc(), row)?);
-    }
-    Ok(())
-}
-
-// Whether many offers do the same as where the choice is made anew.
-fn agrees(alloc: Global, row: &Row) -> Result<bool, NoMemory> {
-    let board = board_of_row(alloc, row)?;
-    let mut fast = FastHolder::open(alloc, &board)?;
-    let mut plain = ChoiceHolder::open(alloc, Greedy::new(&board))?;
-    for i in 0..300 {
-        let x = (i * 7 + i / 5) % 10;
-        if offered(&mut fast, x) != offered(&mut plain, x) {
-            return Ok(false);
-        }
-    }
-    Ok(true)
-}
-
-#[test]
-fn agrees_with_choices_made_anew(rt: HostRuntime) -> Result<(), Fail> {
-    for row in &ROWS {
-        assert!(rt; agrees(rt.alloc(), row)?);
     }
     Ok(())
 }

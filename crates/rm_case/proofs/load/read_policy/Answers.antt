@@ -20,7 +20,7 @@ returns-in-Absent-clause-reads c = λ told tells. plain-reads c.args.roster.now 
 pub returns-in-Long-clause-reads : goal.returns-in-Long-clause-reads
 returns-in-Long-clause-reads c = λ told tells.
     let long = rw c.in-Long.is at tells in
-    long-stops c.args.roster.now long.0 told c.refuse.result long.1 long.2 c.refuse.ensures
+    long-stops c.args.roster.now long.0 told c.refused.result long.1 long.2 c.refused.ensures
 
 pub returns-clause-reads : goal.returns-clause-reads
 returns-clause-reads c = λ told tells.

@@ -2,7 +2,7 @@ use Rattle.std.proofs.Common.{◌≡◌, arith, pos, w64, Some, rules, subst, sy
 use Rattle.std.proofs.lemmas.Int.{ints, to_z-of_z}
 use mir.Val.{to_z, of_z}
 use Rattle.rm_exchange.specs.Counted.{IsSwapChange}
-use Rattle.rm_valuation_laws.proofs.TieOrder.{place_is}
+use Rattle.rm_sets.proofs.Places.{place_told}
 use Rattle.rm_exchange.proofs.Changes.{fits_i64, swap_ties, swap_unfit, swap_decides}
 use Rattle.rm_exchange.proofs.verdicts.is_better_for.Goals as goal
 
@@ -16,7 +16,7 @@ returns-then-change-eq0 c = λ S t out.
     let h = rw (to_z-of_z w64 c.args.loss (fits_i64 c.args.loss c.requires.low c.requires.high)) at c.swap_change.ensures in
     let change = subst (IsSwapChange c.args.board.now S c.args.x c.args.z) c.in-Some.is (h S c.args.z t out) in
     let zero : c.in-Some.change ≡ pos 0 = search rules in
-    rw (sym (place_is c.args.board.now.ties c.args.x c.tie.result c.tie.ensures), sym (place_is c.args.board.now.ties c.args.z c.tie-then-change-eq0.result c.tie-then-change-eq0.ensures))
+    rw (place_told _ c.args.board.now.ties _ c.tie.ensures, place_told _ c.args.board.now.ties _ c.tie-then-change-eq0.ensures)
     (sym (swap_ties c.args.board.now S c.args.x c.args.z t.chosen t.member out c.requires.contract (subst (λ n. IsSwapChange c.args.board.now S c.args.x c.args.z (Some n)) zero change)))
 
 pub returns : goal.returns

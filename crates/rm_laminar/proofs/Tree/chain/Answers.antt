@@ -6,4 +6,4 @@ use Rattle.rm_laminar.proofs.Tree.chain.Goals as goal
 pub returns : goal.returns
 returns c =
     let lt = rw (← c.self.view_is) at c.requires in
-    c.list.ensures ∙ rw (← c.self.view_is) (kept-chain (told (length c.self.inside.firsts.items) c.self.inside.chains) c.self.inside.chains c.self.inside.firsts.items c.args.h c.self.invariant.0 lt)
+    c.list.ensures.list ∙ rw (← c.self.view_is) (kept-chain (told (length c.self.inside.firsts.items) c.self.inside.chains) c.self.inside.chains c.self.inside.firsts.items c.args.h c.self.invariant.0 lt)

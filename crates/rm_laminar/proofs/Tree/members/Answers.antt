@@ -9,4 +9,4 @@ list-requires c =
 pub returns : goal.returns
 returns c =
     let lt = rw (← c.self.view_is) at c.requires in
-    c.list.ensures ∙ rw (← c.self.view_is) (c.self.invariant.2.each c.args.node lt)
+    c.list.ensures.list ∙ rw (← c.self.view_is) (c.self.invariant.2.each c.args.node lt)

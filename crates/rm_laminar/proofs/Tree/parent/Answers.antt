@@ -23,13 +23,13 @@ returns-in-Some c =
     let lt = rw (← c.self.view_is) at c.requires in
     let count = nodes-count (told (length c.self.inside.firsts.items) c.self.inside.chains) c.self.inside.chains c.self.inside.firsts.items c.self.invariant.0 in
     let first = get_or_read c.self.inside.firsts.items c.args.node c.index.result.now (omega (arith, lt, count)) c.index.ensures 0 in
-    let place = rw (c.list-chain.ensures, first) at (sym c.in-Some.ensures) in
-    c.item.ensures ∙ rw (c.list-chain.ensures, first, ← c.self.view_is) (kept-parent (told (length c.self.inside.firsts.items) c.self.inside.chains) c.self.inside.chains c.self.inside.firsts.items c.args.node c.in-Some.place c.self.invariant.0 lt place)
+    let place = rw (c.list-chain.ensures.list, first) at (sym c.in-Some.ensures) in
+    c.item.ensures ∙ rw (c.list-chain.ensures.list, first, ← c.self.view_is) (kept-parent (told (length c.self.inside.firsts.items) c.self.inside.chains) c.self.inside.chains c.self.inside.firsts.items c.args.node c.in-Some.place c.self.invariant.0 lt place)
 
 pub returns-in-None : goal.returns-in-None
 returns-in-None c =
     let lt = rw (← c.self.view_is) at c.requires in
     let count = nodes-count (told (length c.self.inside.firsts.items) c.self.inside.chains) c.self.inside.chains c.self.inside.firsts.items c.self.invariant.0 in
     let first = get_or_read c.self.inside.firsts.items c.args.node c.index.result.now (omega (arith, lt, count)) c.index.ensures 0 in
-    let place = rw (c.list-chain.ensures, first) at (sym c.in-None.ensures) in
+    let place = rw (c.list-chain.ensures.list, first) at (sym c.in-None.ensures) in
     absurd (some-place (told (length c.self.inside.firsts.items) c.self.inside.chains) c.self.inside.chains c.self.inside.firsts.items c.args.node c.self.invariant.0 lt place)

@@ -1,67 +1,45 @@
-use Rattle.std.proofs.Common.{◌≡◌, ◌∙◌, ◌+◌, ◌++◌, length, map, sym}
+use Rattle.std.proofs.Common.{◌≡◌, ◌∙◌, ◌+◌, ℕ, List, length, map, sym}
 use Rattle.std.proofs.lemmas.List.{length-map}
 use Rattle.toml.specs.View.{view}
-use Rattle.rm_base.specs.Checks.{first_of, checks_of}
-use Rattle.rm_base.proofs.Stopping.{stops-on}
+use Rattle.rm_base.specs.Checks.{checks_of}
+use Rattle.rm_base.specs.Text.{Text}
+use Rattle.rm_roster.specs.Roster.{RosterData}
 use Rattle.rm_policy.specs.Entries.{name_checks}
-use Rattle.rm_policy.proofs.EntryLemmas.{three-first, three-second, three-third}
+use Rattle.rm_policy.specs.declared.groups.GroupArrays.{GroupArrays}
+use Rattle.rm_policy.proofs.EntryLemmas.{Blocks, stops-first, stops-second, stops-third, three-third}
 use Rattle.rm_policy.proofs.groups.read_elements.Goals as goal
 
+abbrev blocks : RosterData → List Text → ℕ → GroupArrays → Blocks
+blocks r names i a =
+    record {
+      one = checks_of (name_checks r.hospitals i 0) (map view a.hospitals.now);
+      two = checks_of (name_checks r.prefectures i (length (map view a.hospitals.now))) (map view a.prefectures.now);
+      three = checks_of (name_checks names i (length (map view a.hospitals.now) + length (map view a.prefectures.now))) (map view a.groups.now);
+    }
+
 pub returns-in-Err : goal.returns-in-Err
-returns-in-Err c =
-    let r = c.args.roster.now in
-    let names = c.args.names.now in
-    let hs = map view c.args.arrays.now.hospitals.now in
-    let ps = map view c.args.arrays.now.prefectures.now in
-    let gs = map view c.args.arrays.now.groups.now in
-    let one = checks_of (name_checks r.hospitals c.args.item 0) hs in
-    let two = checks_of (name_checks r.prefectures c.args.item (length hs)) ps in
-    let three = checks_of (name_checks names c.args.item (length hs + length ps)) gs in
-    stops-on (first_of one) (first_of (one ++ two ++ three)) c.in-Err.fault (λ refusal some. three-first one two three refusal some) (rw c.hospitals.ensures.hospitals at c.in-Err.ensures)
+returns-in-Err c = stops-first (blocks c.args.roster.now c.args.names.now c.args.item c.args.arrays.now) c.in-Err.fault (rw c.hospitals.ensures.hospitals at c.in-Err.ensures)
 
 pub returns-in-Err-read_names : goal.returns-in-Err-read_names
 returns-in-Err-read_names c =
-    let r = c.args.roster.now in
-    let names = c.args.names.now in
-    let hs = map view c.args.arrays.now.hospitals.now in
-    let ps = map view c.args.arrays.now.prefectures.now in
-    let gs = map view c.args.arrays.now.groups.now in
-    let one = checks_of (name_checks r.hospitals c.args.item 0) hs in
-    let two = checks_of (name_checks r.prefectures c.args.item (length hs)) ps in
-    let three = checks_of (name_checks names c.args.item (length hs + length ps)) gs in
-    let a = rw c.hospitals.ensures.hospitals at c.in-Ok.ensures in
-    let count : length c.args.arrays.now.hospitals.now ≡ length hs = sym (length-map c.args.arrays.now.hospitals.now view) in
-    stops-on (first_of two) (first_of (one ++ two ++ three)) c.in-Err-read_names.fault (λ refusal some. three-second one two three refusal a.0 some) (rw (c.prefectures.ensures.prefectures, count) at c.in-Err-read_names.ensures)
+    let count : length c.args.arrays.now.hospitals.now ≡ length (map view c.args.arrays.now.hospitals.now) = sym (length-map c.args.arrays.now.hospitals.now view) in
+    let first = rw c.hospitals.ensures.hospitals at c.in-Ok.ensures in
+    stops-second (blocks c.args.roster.now c.args.names.now c.args.item c.args.arrays.now) c.in-Err-read_names.fault first.0 (rw (c.prefectures.ensures.prefectures, count) at c.in-Err-read_names.ensures)
 
 pub returns-in-Err-read_names-2 : goal.returns-in-Err-read_names-2
 returns-in-Err-read_names-2 c =
-    let r = c.args.roster.now in
-    let names = c.args.names.now in
-    let hs = map view c.args.arrays.now.hospitals.now in
-    let ps = map view c.args.arrays.now.prefectures.now in
-    let gs = map view c.args.arrays.now.groups.now in
-    let one = checks_of (name_checks r.hospitals c.args.item 0) hs in
-    let two = checks_of (name_checks r.prefectures c.args.item (length hs)) ps in
-    let three = checks_of (name_checks names c.args.item (length hs + length ps)) gs in
-    let a = rw c.hospitals.ensures.hospitals at c.in-Ok.ensures in
-    let count : length c.args.arrays.now.hospitals.now ≡ length hs = sym (length-map c.args.arrays.now.hospitals.now view) in
-    let more : length c.args.arrays.now.prefectures.now ≡ length ps = sym (length-map c.args.arrays.now.prefectures.now view) in
-    let b = rw (c.prefectures.ensures.prefectures, count) at c.in-Ok-read_names.ensures in
-    stops-on (first_of three) (first_of (one ++ two ++ three)) c.in-Err-read_names-2.fault (λ refusal some. three-third one two three a.0 b.0 ∙ some) (rw (count, more) at c.in-Err-read_names-2.ensures)
+    let count : length c.args.arrays.now.hospitals.now ≡ length (map view c.args.arrays.now.hospitals.now) = sym (length-map c.args.arrays.now.hospitals.now view) in
+    let more : length c.args.arrays.now.prefectures.now ≡ length (map view c.args.arrays.now.prefectures.now) = sym (length-map c.args.arrays.now.prefectures.now view) in
+    let first = rw c.hospitals.ensures.hospitals at c.in-Ok.ensures in
+    let second = rw (c.prefectures.ensures.prefectures, count) at c.in-Ok-read_names.ensures in
+    stops-third (blocks c.args.roster.now c.args.names.now c.args.item c.args.arrays.now) c.in-Err-read_names-2.fault first.0 second.0 (rw (count, more) at c.in-Err-read_names-2.ensures)
 
 pub returns : goal.returns
 returns c =
-    let r = c.args.roster.now in
-    let names = c.args.names.now in
-    let hs = map view c.args.arrays.now.hospitals.now in
-    let ps = map view c.args.arrays.now.prefectures.now in
-    let gs = map view c.args.arrays.now.groups.now in
-    let one = checks_of (name_checks r.hospitals c.args.item 0) hs in
-    let two = checks_of (name_checks r.prefectures c.args.item (length hs)) ps in
-    let three = checks_of (name_checks names c.args.item (length hs + length ps)) gs in
-    let a = rw c.hospitals.ensures.hospitals at c.in-Ok.ensures in
-    let count : length c.args.arrays.now.hospitals.now ≡ length hs = sym (length-map c.args.arrays.now.hospitals.now view) in
-    let more : length c.args.arrays.now.prefectures.now ≡ length ps = sym (length-map c.args.arrays.now.prefectures.now view) in
-    let b = rw (c.prefectures.ensures.prefectures, count) at c.in-Ok-read_names.ensures in
-    let d = rw (count, more) at c.in-Ok-read_names-2.ensures in
-    (three-third one two three a.0 b.0 ∙ d.0, a.1, b.1, d.1)
+    let count : length c.args.arrays.now.hospitals.now ≡ length (map view c.args.arrays.now.hospitals.now) = sym (length-map c.args.arrays.now.hospitals.now view) in
+    let more : length c.args.arrays.now.prefectures.now ≡ length (map view c.args.arrays.now.prefectures.now) = sym (length-map c.args.arrays.now.prefectures.now view) in
+    let first = rw c.hospitals.ensures.hospitals at c.in-Ok.ensures in
+    let second = rw (c.prefectures.ensures.prefectures, count) at c.in-Ok-read_names.ensures in
+    let third = rw (count, more) at c.in-Ok-read_names-2.ensures in
+    let b = blocks c.args.roster.now c.args.names.now c.args.item c.args.arrays.now in
+    (three-third b.one b.two b.three first.0 second.0 ∙ third.0, first.1, second.1, third.1)

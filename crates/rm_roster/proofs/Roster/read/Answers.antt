@@ -29,8 +29,8 @@ returns-in_err-ranks c =
     let doctor_names : c.names-3.result.now ≡ names_in c.args.doctors.now = c.names-3.ensures ∙ ap (λ (d : DoctorsData). d.names) doctors.1 in
     rw (p.1, p.2) (ranks-stop c.args.hospitals.now c.args.doctors.now c.args.ranks.now c.in_err-ranks.field-0.0 told.0 doctors.0 (rw (names_again, doctor_names) at c.in_err-ranks.ensures))
 
-pub invariant_of-result : goal.invariant_of-result
-invariant_of-result c =
+pub join-requires : goal.join-requires
+join-requires c =
     let told = c.in_ok-hospitals.ensures in
     let names : c.names.result.now ≡ names_in c.args.hospitals.now = c.names.ensures ∙ ap (λ (h : HospitalsData). h.names) told.1 in
     let names_again : c.names-2.result.now ≡ names_in c.args.hospitals.now = c.names-2.ensures ∙ ap (λ (h : HospitalsData). h.names) told.1 in
@@ -40,8 +40,8 @@ invariant_of-result c =
     let is = roster-is c.args.hospitals.now c.args.doctors.now c.args.ranks.now c.in_ok-hospitals.hospitals c.in_ok-doctors.doctors c.in_ok-ranks.ranks told.1 doctors.1 ranks.1 in
     subst IsRoster (sym is) (accepted c.args.hospitals.now c.args.doctors.now c.args.ranks.now (all-files c.args.hospitals.now c.args.doctors.now c.args.ranks.now told.0 doctors.0 ranks.0))
 
-pub returns : goal.returns
-returns c =
+pub returns-in-Ok : goal.returns-in-Ok
+returns-in-Ok c = rw c.in-Ok.ensures (
     let told = c.in_ok-hospitals.ensures in
     let names : c.names.result.now ≡ names_in c.args.hospitals.now = c.names.ensures ∙ ap (λ (h : HospitalsData). h.names) told.1 in
     let names_again : c.names-2.result.now ≡ names_in c.args.hospitals.now = c.names-2.ensures ∙ ap (λ (h : HospitalsData). h.names) told.1 in
@@ -50,4 +50,5 @@ returns c =
     let ranks = rw (names_again, doctor_names) at c.in_ok-ranks.ensures in (
       all-files c.args.hospitals.now c.args.doctors.now c.args.ranks.now told.0 doctors.0 ranks.0,
       roster-is c.args.hospitals.now c.args.doctors.now c.args.ranks.now c.in_ok-hospitals.hospitals c.in_ok-doctors.doctors c.in_ok-ranks.ranks told.1 doctors.1 ranks.1,
+    )
     )

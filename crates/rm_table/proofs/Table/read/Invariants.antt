@@ -1,9 +1,10 @@
-use Rattle.rm_table.specs.Packed.{ArePackedRows, rows_cut}
-use Rattle.rm_table.proofs.RecordLemmas.{Going, records_left}
+use Rattle.std.proofs.Common.{length}
+use Rattle.rm_table.specs.Rows.{rows_of}
+use Rattle.rm_table.proofs.CutLemmas.{AreKept}
 use Rattle.rm_table.proofs.Table.read.Given as goal
 
-abbrev pub invariant-records : goal.invariant-records
-invariant-records l = ArePackedRows l.ends.items l.cells × Going l.reader l.bytes (rows_cut 0 l.ends.items l.cells)
+abbrev pub invariant-rows : goal.invariant-rows
+invariant-rows l = AreKept (rows_of l.bytes) l.ends.items l.cells l.rows
 
-abbrev pub decreases-records : goal.decreases-records
-decreases-records l = records_left l.reader
+abbrev pub decreases-rows : goal.decreases-rows
+decreases-rows l = length l.rows.coming

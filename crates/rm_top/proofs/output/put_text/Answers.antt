@@ -1,5 +1,6 @@
 use Rattle.std.proofs.Common.{◌≡◌, ◌+◌, ◌-◌, ◌≤◌, length, arith, rules}
-use Rattle.rm_top.proofs.Pieces.{gains-more, gains-part}
+use Rattle.rm_outside.proofs.GainLemmas.{gains-more}
+use Rattle.rm_top.proofs.Pieces.{gains-part}
 use Rattle.rm_top.proofs.output.put_text.Goals as goal
 
 pub returns-in-Err-clause-part : goal.returns-in-Err-clause-part

@@ -1,5 +1,5 @@
 use Rattle.std.proofs.Common.{◌≡◌, ◌<◌, ◌^◌, length, refl, arith}
-use Rattle.rm_board.proofs.Numbering.{add-fits, added-count, count-is, numbered-more, numbered-all, numbered-few, lists-are}
+use Rattle.rm_board.proofs.Numbering.{add-fits, added-count, count-is, numbered-more, numbered-all, lists-are}
 use Rattle.rm_board.proofs.Runs.{more-begun, all-begun}
 use Rattle.rm_board.proofs.contracts.Contracts.build.Goals as goal
 
@@ -15,9 +15,6 @@ loop-h-preserved c =
       numbered = numbered-more _ _ _ c.loop-h.invariant.numbered c.add.new.self c.list.result.now lt c.list.ensures added.doctors added.starts;
       begun = more-begun _ _ _ _ c.loop-h.invariant.begun lt more;
     }
-
-pub build-requires : goal.build-requires
-build-requires c = rw c.deref.ensures.value (numbered-few _ _ _ c.loop-h.invariant.numbered c.requires)
 
 pub add-requires-clause-runs : goal.add-requires-clause-runs
 add-requires-clause-runs c = rw (count-is _ _ _ c.loop-h.invariant.numbered) c.loop-h.invariant.begun.long

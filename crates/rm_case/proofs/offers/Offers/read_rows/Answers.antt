@@ -1,7 +1,8 @@
 use Rattle.std.proofs.Common.{◌≡◌, [], None, replicate, arith, rules}
 use Rattle.rm_market.specs.Board.{contract_count}
 use Rattle.rm_case.specs.Case.{market}
-use Rattle.rm_case.proofs.OfferRows.{none-offered, one-more, one-refused, all-offered, stops-own}
+use Rattle.rm_base.proofs.Stopping.{stops-on}
+use Rattle.rm_case.proofs.OfferRows.{none-offered, one-more, one-refused, all-offered}
 use Rattle.rm_case.proofs.offers.Offers.read_rows.Goals as goal
 
 pub loop-i-init : goal.loop-i-init
@@ -15,7 +16,7 @@ pub returns-in-Err-clause-reads : goal.returns-in-Err-clause-reads
 returns-in-Err-clause-reads c =
     let lt = rw c.rows-i-end.ensures at c.loop-i-test.true in
     let stops = rw c.deref.ensures.value at c.in-Err.ensures.stops in
-    stops-own _ _ c.in-Err.fault (λ refusal some. one-refused c.args.case.now c.args.table.now c.loop-i.i c.loop-i.rows.items c.loop-i.contracts.items c.row.result c.loop-i.invariant refusal lt c.row.ensures some)
+    stops-on _ _ c.in-Err.fault (λ refusal some. one-refused c.args.case.now c.args.table.now c.loop-i.i c.loop-i.rows.items c.loop-i.contracts.items c.row.result c.loop-i.invariant refusal lt c.row.ensures some)
     stops
 
 pub loop-i-preserved : goal.loop-i-preserved

@@ -15,7 +15,7 @@ returns-in-Err-clause-entries c =
 pub loop-i-preserved : goal.loop-i-preserved
 loop-i-preserved c =
     groups-more c.args.roster.now c.args.first c.args.values.now c.loop-i.i c.index-values-i.result c.loop-i.groups c.add.new.self c.loop-i.invariant c.loop-i-test.true c.index-values-i.is
-    c.in-Ok-add.ensures.entry.0 c.in-Ok-add.ensures.entry.1 c.in-Ok-add.ensures.few
+    c.in-Ok.ensures.entry.0 c.in-Ok.ensures.entry.1 c.in-Ok.ensures.few
 
 pub returns-clause-entries : goal.returns-clause-entries
 returns-clause-entries c =

@@ -1,19 +1,31 @@
-use Rattle.std.proofs.Common.{◌≡◌, ◌∙◌, ◌<◌, length, get_or, None, refl, sym, arith}
-use Rattle.std.proofs.lemmas.List.{length-map}
-use Rattle.rm_ranks.specs.Packed.{part}
-use Rattle.rm_ranks.proofs.Building.{lists-begun, list-built}
+use Rattle.std.proofs.Common.{◌≡◌, ◌∙◌, get_or, Some, None, refl, sym, arith, length-set}
+use Rattle.std.proofs.lemmas.List.{get_or_read}
+use Rattle.rm_lists.proofs.Grouped.{length-dealt}
+use Rattle.rm_ranks.proofs.Building.{none-seen, list-built}
 use Rattle.rm_ranks.proofs.builder.ListsBuilder.row.Goals as goal
+
+pub index-requires : goal.index-requires
+index-requires c =
+    let lt = rw (← c.self.view_is, length-dealt _ c.self.inside.keys.items c.self.inside.items.items) at c.requires in
+    omega (arith, lt, c.self.inside.marks.ok.0)
+
+pub returns-in-Some : goal.returns-in-Some
+returns-in-Some c =
+    let lt = rw (← c.self.view_is, length-dealt _ c.self.inside.keys.items c.self.inside.items.items) at c.requires in
+    rw (← c.self.view_is) (sym (get_or_read c.self.inside.marks.items c.args.i _ lt c.index.ensures None) ∙ c.in-Some.is, refl)
+
+pub index_mut-requires : goal.index_mut-requires
+index_mut-requires c =
+    let lt = rw (← c.self.view_is, length-dealt _ c.self.inside.keys.items c.self.inside.items.items) at c.requires in
+    omega (arith, lt, c.self.inside.marks.ok.0)
 
 pub invariant_of-self : goal.invariant_of-self
 invariant_of-self c =
-    let within = rw (← c.self.view_is) at c.requires in
-    let lt : c.args.i < length c.self.inside.spans.items = omega (arith, length-map c.self.inside.spans.items (part c.self.inside.items.items)) in
+    let lt = rw (← c.self.view_is, length-dealt _ c.self.inside.keys.items c.self.inside.items.items) at c.requires in
     let none : get_or c.self.inside.marks.items c.args.i None ≡ None = sym (rw c.in_default.is at c.index.ensures) in
-    list-built _ _ _ _ _ _ c.self.invariant c.args.i c.len-end.result c.args.mark lt none (c.len-end.ensures ∙ c.self.inside.items.ok.0) _ c.forget_last.ensures.count c.forget_last.ensures.none
+    list-built _ _ _ _ _ _ _ c.self.invariant c.args.i _ c.args.mark lt none (c.len-self-inside.ensures ∙ c.self.inside.items.ok.0) _ c.forget_items.ensures.count (none-seen c.self.inside.items.items c.deref.result.now c.self.inside.start c.self.inside.seen.items c.forget_items.new.seen.items c.self.invariant.noted c.deref.ensures.value c.forget_items.ensures.gone)
 
 pub returns : goal.returns
 returns c =
-    let within = rw (← c.self.view_is) at c.requires in
-    let lt : c.args.i < length c.self.inside.spans.items = omega (arith, length-map c.self.inside.spans.items (part c.self.inside.items.items)) in
     let none : get_or c.self.inside.marks.items c.args.i None ≡ None = sym (rw c.in_default.is at c.index.ensures) in
-    rw (← c.self.view_is) (none, rw (lists-begun c.self.inside.items.items c.self.inside.spans.items _ _ _ _ c.self.invariant c.args.i c.len-end.result lt none, c.forget_last.ensures.count) refl)
+    rw (← c.self.view_is) (none, rw (length-set c.self.inside.marks.items c.args.i (Some c.args.mark), c.forget_items.ensures.count) refl)

@@ -1,0 +1,5 @@
+pub mod FirstPlaces
+pub mod KeyLemmas
+pub mod KeyedLemmas
+pub mod NameLemmas
+mod TextLemmas

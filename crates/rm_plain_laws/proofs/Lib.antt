@@ -1,0 +1,3 @@
+pub mod ListsBelow
+pub mod Stability
+mod Refused

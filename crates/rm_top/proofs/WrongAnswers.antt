@@ -1,0 +1,73 @@
+-- Wrong answers, and what refuses them.
+use Rattle.std.proofs.Common.{◌≡◌, ℕ, ◌<◌, List, [], ◌∷◌, ◌++◌, true, false, length, get_or, Option, Some, Ok, Err, refl, sym, ap, ◌∙◌, arith, true≢false}
+use Rattle.rm_base.specs.Text.{Text, Files}
+use Rattle.rm_base.specs.declared.Refusal.{Refusal}
+use Rattle.rm_base.specs.declared.codes.TheConstants.{OWN_FILE}
+use Rattle.rm_market.specs.Flexible.{Region}
+use Rattle.rm_market.specs.Market.{Market, IsMarket, IsPlacementOf, replaced, solve}
+use Rattle.rm_market.proofs.OnLiterals.{market_on_literals}
+use Rattle.rm_market.proofs.Small.{crossed, two, two_region}
+use Rattle.rm_plain_laws.proofs.ListsBelow.{list_below}
+use Rattle.rm_market_laws.proofs.Market.{solve_is}
+use Rattle.rm_market_laws.proofs.Wishes.{IsMarket-replaced}
+use Rattle.rm_group_laws.proofs.WrongAnswers.{crossed_is_market, first_choices}
+use Rattle.rm_kamada_kojima_laws.proofs.Examples.{pair_market}
+use Rattle.rm_case.specs.Case.{CaseData, market_of}
+use Rattle.rm_case.specs.Regions.{AreRegionsOf}
+use Rattle.rm_top.specs.Answers.{FailedOn}
+use Rattle.rm_top.specs.Command.{Command, folder_in}
+use Rattle.rm_top.specs.Headline.{NobodyGains, PlacesTheSame, EndsIn}
+use Rattle.rm_top.proofs.Placed.{ends_in}
+
+-- ---- two hospitals with one seat each, of which each ranks first the doctor who likes the other one better
+
+-- the set that is best for the hospitals is stable, and no more
+stable_alone : ¬ IsPlacementOf crossed (0 ∷ 2 ∷ [])
+unfolding market_on_literals
+stable_alone is = true≢false (is.optimal.best_for_all (1 ∷ 3 ∷ []) 0 first_choices (omega arith))
+
+-- the first doctor has his first choice if he lists nothing else
+first_choice_alone : IsPlacementOf (replaced crossed 0 (0 ∷ [])) (1 ∷ 3 ∷ [])
+unfolding market_on_literals
+first_choice_alone = solve_is (replaced crossed 0 (0 ∷ [])) (IsMarket-replaced crossed crossed_is_market 0 (0 ∷ []) (list_below 2 (0 ∷ []) refl))
+
+gain_by_another_list : ¬ NobodyGains crossed (0 ∷ 2 ∷ [])
+unfolding market_on_literals
+gain_by_another_list says = true≢false (says.no_gain 0 (0 ∷ []) (1 ∷ 3 ∷ []) (omega arith) (list_below 2 (0 ∷ []) refl) first_choice_alone)
+
+-- nobody has a place
+other_doctors : ¬ PlacesTheSame crossed []
+unfolding market_on_literals
+other_doctors says = true≢false (says (1 ∷ 3 ∷ []) 0 first_choices)
+
+-- ---- two hospitals in one region with one seat, of which the first turns first
+
+two_regions : AreRegionsOf two.board (two_region ∷ [])
+unfolding market_on_literals
+two_regions = record { lawful = pair_market.lawful; compiled = pair_market.compiled }
+
+-- the procedure can be brought to an end, so it ends in one set alone
+ends_once : (m : Market) (regions : List Region) (S T : List ℕ) → EndsIn m regions S → EndsIn m regions T → S ≡ T
+ends_once m regions S T s t = let end = s.goes_on [] in sym (s.ends end.0 end.1) ∙ t.ends end.0 end.1
+
+-- it ends with the first doctor at the first hospital
+right_end : EndsIn two (two_region ∷ []) (0 ∷ [])
+unfolding market_on_literals
+right_end = ends_in two (two_region ∷ []) (0 ∷ []) pair_market.market two_regions (solve_is two pair_market.market)
+
+-- and not with him at the second hospital, where he would stay if nobody could be put out
+first_come : ¬ EndsIn two (two_region ∷ []) (2 ∷ [])
+first_come says = zero_or_two _ _ refl refl (ap (λ (L : List ℕ). get_or L 0 0) (ends_once two (two_region ∷ []) (0 ∷ []) (2 ∷ []) right_end says))
+  where
+    zero_or_two : (a b : ℕ) → a ≡ 0 → b ≡ 2 → a ≡ b → ⊥
+    zero_or_two a b zero two e = omega (arith, zero, two, e)
+
+-- ---- a read that failed
+
+-- the own file is named only where the folder is accepted
+refused_folder : (files : Files) (command : Command) (blame : Option (Option Text)) (r : Refusal) → market_of files (folder_in command) ≡ Err r
+    → ¬ FailedOn (Some files) blame command OWN_FILE
+refused_folder files command blame r refused failed = let accepted = failed.needed refl in not_both (sym accepted.1 ∙ refused)
+  where
+    not_both : {c : CaseData} → Ok c ≡ Err r → ⊥
+    not_both e = cc
