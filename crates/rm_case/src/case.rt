@@ -18,12 +18,23 @@ use std::alloc::Global;
 use std::marker::Model;
 
 /// What the files of a folder say, the board that they make, and the doctors' listed contracts.
-#[derive(Drop)]
 pub struct Case {
     roster: Roster,
     policy: Policy,
     board: Board,
     listed: Lists,
+}
+
+// (So whoever drops a case calls this, and does not drop its parts one by one.)
+impl Drop for Case {
+    fn drop(self) {
+        let Case {
+            roster: _,
+            policy: _,
+            board: _,
+            listed: _,
+        } = self;
+    }
 }
 
 impl Model for Case {

@@ -1,3 +1,4 @@
+pub mod Answering
 pub mod Chosen
 pub mod OwnRows
 pub mod Pieces

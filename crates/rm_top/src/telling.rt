@@ -5,7 +5,7 @@ ghost use Rattle.rm_base.specs.Checks.{first_of};
 ghost use Rattle.rm_base.specs.Reading.{Stops};
 ghost use Rattle.rm_top.specs.Answers.{IsPlacementText};
 ghost use Rattle.rm_top.specs.Command.{rows_checks};
-ghost use Rattle.rm_top.specs.Telling.{HasFailedOwn, HasCaseText, HasText, LoadsRows, StopsWith};
+ghost use Rattle.rm_top.specs.Telling.{HasCaseText, HasFailedOwn, HasText, HasTextOn, LoadsRows, StopsOnCase, StopsWith};
 
 use crate::NoMemory;
 use crate::choosing::choose_text;
@@ -60,6 +60,29 @@ fn own_table<S: Shelf>(
     }
 }
 
+// The text of a command on the case of its folder, or why there is none.
+fn text_after<S: Shelf>(
+    alloc: Global,
+    command: &Command<'_>,
+    case: &Case,
+    shelf: &mut S,
+) -> Result<Vec<u8>, LoadFault>
+    ensures text { IfOk result (λ text. HasTextOn (S.files shelf.old) command.now case.now text.items) }
+    ensures stops { IfErr result (StopsOnCase (S.files shelf.old) (S.faults shelf.old) (S.faults shelf.new) (S.blame shelf.new) command.now case.now) }
+    ensures files { S.files shelf.new ≡ S.files shelf.old }
+    ensures later { S.faults shelf.old ≤ S.faults shelf.new }
+{
+    let own = match own_table(alloc, command, shelf) {
+        Ok(own) => own,
+        Err(fault) => return Err(fault),
+    };
+    match text_on(alloc, command.kind(), case, &own) {
+        Ok(text) => Ok(text),
+        Err(OwnFault::Refused(refusal)) => Err(LoadFault::Refused(refusal)),
+        Err(OwnFault::NoMemory) => Err(LoadFault::NoMemory),
+    }
+}
+
 /// The text of a command, or why there is none: the first refusal of its folder and then of its own file, a file that the shelf
 /// failed at, or want of memory.
 pub fn text_of<S: Shelf>(
@@ -75,13 +98,5 @@ pub fn text_of<S: Shelf>(
         Ok(case) => case,
         Err(fault) => return Err(fault),
     };
-    let own = match own_table(alloc, command, shelf) {
-        Ok(own) => own,
-        Err(fault) => return Err(fault),
-    };
-    match text_on(alloc, command.kind(), &case, &own) {
-        Ok(text) => Ok(text),
-        Err(OwnFault::Refused(refusal)) => Err(LoadFault::Refused(refusal)),
-        Err(OwnFault::NoMemory) => Err(LoadFault::NoMemory),
-    }
+    text_after(alloc, command, &case, shelf)
 }
