@@ -1,5 +1,5 @@
 -- The market of a case without a policy is the plain one of its roster.
-use Rattle.std.proofs.Common.{◌≡◌, ◌↔◌, ℕ, List, refl, sym, subst}
+use Rattle.std.proofs.Common.{◌↔◌, ℕ, List, refl, sym, subst}
 use Rattle.rm_market.specs.Stable.{IsPlacement}
 use Rattle.rm_market.specs.Market.{IsMarket, IsStableIn, wishes_of}
 use Rattle.rm_plain_laws.specs.Stability.{IsPairwiseStable}

@@ -1,10 +1,11 @@
 -- Wrong answers, and what refuses them.
-use Rattle.std.proofs.Common.{◌≡◌, ℕ, ◌<◌, List, [], ◌∷◌, ◌++◌, true, false, length, get_or, Option, Some, Ok, Err, refl, sym, ap, ◌∙◌, arith, true≢false}
+use Rattle.std.proofs.Common.{◌≡◌, ℕ, List, [], ◌∷◌, false, get_or, Option, Some, Ok, Err, refl, sym, ap, ◌∙◌, arith, true≢false}
 use Rattle.rm_base.specs.Text.{Text, Files}
 use Rattle.rm_base.specs.declared.Refusal.{Refusal}
 use Rattle.rm_base.specs.declared.codes.TheConstants.{OWN_FILE}
+use Rattle.rm_market.specs.Board.{is_feasible}
 use Rattle.rm_market.specs.Flexible.{Region}
-use Rattle.rm_market.specs.Market.{Market, IsMarket, IsPlacementOf, replaced, solve}
+use Rattle.rm_market.specs.Market.{Market, IsPlacementOf, replaced}
 use Rattle.rm_market.proofs.OnLiterals.{market_on_literals}
 use Rattle.rm_market.proofs.Small.{crossed, two, two_region}
 use Rattle.rm_plain_laws.proofs.ListsBelow.{list_below}
@@ -12,12 +13,18 @@ use Rattle.rm_market_laws.proofs.Market.{solve_is}
 use Rattle.rm_market_laws.proofs.Wishes.{IsMarket-replaced}
 use Rattle.rm_group_laws.proofs.WrongAnswers.{crossed_is_market, first_choices}
 use Rattle.rm_kamada_kojima_laws.proofs.Examples.{pair_market}
-use Rattle.rm_case.specs.Case.{CaseData, market_of}
+use Rattle.rm_case.specs.Case.{CaseData, market, market_of}
 use Rattle.rm_case.specs.Regions.{AreRegionsOf}
 use Rattle.rm_top.specs.Answers.{FailedOn}
 use Rattle.rm_top.specs.Command.{Command, folder_in}
-use Rattle.rm_top.specs.Headline.{NobodyGains, PlacesTheSame, EndsIn}
+use Rattle.rm_top.specs.Headline.{NobodyGains, PlacesTheSame, EndsIn, IsPlaced}
 use Rattle.rm_top.proofs.Placed.{ends_in}
+
+-- ---- any case
+
+-- what is over a capacity or a cap is no placement
+over_a_cap : (c : CaseData) (S : List ℕ) → is_feasible (market c).board S ≡ false → ¬ IsPlaced c S
+over_a_cap c S over is = true≢false (sym is.feasible ∙ over)
 
 -- ---- two hospitals with one seat each, of which each ranks first the doctor who likes the other one better
 

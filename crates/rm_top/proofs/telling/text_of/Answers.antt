@@ -6,13 +6,13 @@ use Rattle.rm_top.proofs.telling.text_of.Goals as goal
 pub returns-clause-text : goal.returns-clause-text
 returns-clause-text g c =
     IfOk-weaker c.text_after.result _ _
-    (λ text has. text_found _ c.args.command.now c.in-Ok.case.now text.items (rw c.folder.ensures at c.in-Ok.ensures.loads) has)
+    (λ text has. text_found _ c.args.command.now c.in-Ok.case text.items (rw c.folder.ensures at c.in-Ok.ensures.loads) has)
     (rw c.in-Ok.ensures.files at c.text_after.ensures.text)
 
 pub returns-clause-stops : goal.returns-clause-stops
 returns-clause-stops g c =
     IfErr-weaker c.text_after.result _ _
-    (λ fault stops. stops_later _ _ _ _ _ c.args.command.now c.in-Ok.case.now fault (rw c.folder.ensures at c.in-Ok.ensures.loads) c.in-Ok.ensures.later stops)
+    (λ fault stops. stops_later _ _ _ _ _ c.args.command.now c.in-Ok.case fault (rw c.folder.ensures at c.in-Ok.ensures.loads) c.in-Ok.ensures.later stops)
     (rw c.in-Ok.ensures.files at c.text_after.ensures.stops)
 
 pub returns-in-Err-clause-stops : goal.returns-in-Err-clause-stops
