@@ -1,12 +1,12 @@
 -- A small market: what one doctor of a group may gain while another stays, and that nothing else is better for some and worse for none isn't so.
-use Rattle.std.proofs.Common.{◌≡◌, ℕ, zero, suc, ◌<◌, List, [], ◌∷◌, Bool, true, false, length, refl, ⊎_elim, arith, Some, None, true≢false, ap}
+use Rattle.std.proofs.Common.{◌≡◌, ◌≢◌, ℕ, zero, suc, ◌<◌, List, [], ◌∷◌, Bool, true, false, length, refl, ⊎_elim, arith, Some, None, true≢false, sym, subst, ap}
 use Rattle.std.specs.Prelude.{slice_index_or}
-use Rattle.rm_sets.specs.Sets.{IsIn}
-use Rattle.rm_sets.proofs.Sets.{IsIn-cases}
+use Rattle.rm_sets.specs.Sets.{has, IsIn}
+use Rattle.rm_sets.proofs.Sets.{IsIn-cases, IsSetBelow-all_below}
 use Rattle.rm_sets.proofs.Members.{not_in_nil}
 use Rattle.rm_market.proofs.OnLiterals.{market_on_literals}
 use Rattle.rm_market.specs.Best.{best_of, values_of}
-use Rattle.rm_market.specs.Stable.{at, prefers_place, IsPlacement, is_listed}
+use Rattle.rm_market.specs.Stable.{at, owner, prefers_place, IsPlacement, is_listed}
 use Rattle.rm_market.specs.Market.{Market, IsMarket, solve, places_of, wishes_of, IsPlacementOf, IsStableIn, Best}
 use Rattle.rm_board_laws.specs.HospitalBoards.{plain_market}
 use Rattle.rm_board_laws.proofs.HospitalBoards.{plain_markets}
@@ -144,3 +144,40 @@ better_for_some all = true≢false (all three (0 ∷ 3 ∷ []) (2 ∷ 4 ∷ []) 
     nobody_worse (suc zero) lt = refl
     nobody_worse (suc (suc zero)) lt = refl
     nobody_worse (suc (suc (suc e))) lt = absurd (omega (arith, lt))
+
+-- that no placement at all is better for all, be it its own best subset or not: the doctors' first contracts are
+abbrev NothingBetterAtAll : Type 0
+NothingBetterAtAll =
+    (m : Market) (S T : List ℕ) → m.lists ≢ [] → IsMarket m → IsPlacementOf m S → IsPlacement (wishes_of m) T
+    → (d : ℕ) × (d < length m.lists) × DoesNotGain (wishes_of m) S T d
+
+first_contracts_are_better : ¬ NothingBetterAtAll
+first_contracts_are_better all =
+    let h = all three (0 ∷ 3 ∷ []) (1 ∷ 2 ∷ 4 ∷ []) (λ e. cc) three_is_market three_placement placement in
+    gain h.0 h.1 h.2
+  where
+    of_three : (Holds : ℕ → Type 0) → Holds 1 → Holds 2 → Holds 4 → (x : ℕ) → IsIn x (1 ∷ 2 ∷ 4 ∷ []) → Holds x
+    of_three Holds one two four x i =
+        ⊎_elim (λ e. subst Holds (sym e) one)
+        (λ later. ⊎_elim (λ e. subst Holds (sym e) two)
+        (λ last. ⊎_elim (λ e. subst Holds (sym e) four) (λ none. absurd (not_in_nil x none)) (IsIn-cases x 4 [] last)) (IsIn-cases x 2 (4 ∷ []) later))
+        (IsIn-cases x 1 (2 ∷ 4 ∷ []) i)
+
+    differ : (a b : ℕ) (x y : ℕ) → a < b → a ≡ b → x ≡ y
+    differ a b x y lt e = absurd (omega (arith, lt, e))
+
+    placement : IsPlacement (wishes_of three) (1 ∷ 2 ∷ 4 ∷ [])
+    placement = record {
+      set = IsSetBelow-all_below 5 (λ x. has x (1 ∷ 2 ∷ 4 ∷ []));
+      once = λ x y ix iy. of_three (λ x. (y : ℕ) → IsIn y (1 ∷ 2 ∷ 4 ∷ []) → owner (wishes_of three) x ≡ owner (wishes_of three) y → x ≡ y)
+          (of_three (λ y. 2 ≡ owner (wishes_of three) y → 1 ≡ y) (λ e. refl) (λ e. differ 1 2 1 2 (omega arith) (sym e)) (λ e. differ 0 2 1 4 (omega arith) (sym e)))
+          (of_three (λ y. 1 ≡ owner (wishes_of three) y → 2 ≡ y) (λ e. differ 1 2 2 1 (omega arith) e) (λ e. refl) (λ e. differ 0 1 2 4 (omega arith) (sym e)))
+          (of_three (λ y. 0 ≡ owner (wishes_of three) y → 4 ≡ y) (λ e. differ 0 2 4 1 (omega arith) e) (λ e. differ 0 1 4 2 (omega arith) e) (λ e. refl)) x ix y iy;
+      listed = of_three (λ x. is_listed (wishes_of three) x ≡ true) refl refl refl;
+    }
+
+    gain : (d : ℕ) → d < 3 → ¬ DoesNotGain (wishes_of three) (0 ∷ 3 ∷ []) (1 ∷ 2 ∷ 4 ∷ []) d
+    gain zero lt = true≢false
+    gain (suc zero) lt = true≢false
+    gain (suc (suc zero)) lt = true≢false
+    gain (suc (suc (suc d))) lt = absurd (omega arith)

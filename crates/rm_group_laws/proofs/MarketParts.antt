@@ -1,18 +1,15 @@
 -- All stable sets of a market have equally many contracts in each part that no node divides.
-use Rattle.std.proofs.Common.{◌≡◌, ℕ, ◌<◌, List, [], ◌∷◌, ◌++◌, true, Bool, not, length, map, get_or, filter, replicate, ℤ, pos, eqb, eqb-true, eq-eqb, sym, ap, ◌∙◌, subst, ⊎_elim, arith}
-use Rattle.std.proofs.lemmas.List.{append-nil, get_or-map, length-map}
-use Rattle.std.specs.Prelude.{slice_index}
-use Rattle.rm_sets.specs.Sets.{IsIn, IsSetBelow, below}
-use Rattle.rm_sets.proofs.Sets.{same_tests, IsIn-cases}
-use Rattle.rm_sets.proofs.Members.{not_in_nil, IsSetBelow-filter}
-use Rattle.rm_sets.proofs.Once.{length-below, get_or-below}
-use Rattle.rm_market.specs.Board.{Node, no_node, pairs_of, contract_count, hospital_of, hospital_of_number}
-use Rattle.rm_market.specs.Ties.{by_rank}
-use Rattle.rm_board_laws.specs.HospitalBoards.{hospital_nodes, hospital_board, plain_market}
+use Rattle.std.proofs.Common.{◌≡◌, ℕ, ◌<◌, List, true, Bool, not, length, filter, eqb, eqb-true, eq-eqb, sym, ap, ◌∙◌, subst}
+use Rattle.rm_sets.specs.Sets.{IsSetBelow}
+use Rattle.rm_sets.proofs.Sets.{same_tests}
+use Rattle.rm_sets.proofs.Members.{IsSetBelow-filter}
+use Rattle.rm_market.specs.Board.{contract_count, hospital_of, hospital_of_number}
+use Rattle.rm_board_laws.specs.HospitalBoards.{plain_market}
 use Rattle.rm_board_laws.proofs.HospitalBoards.{plain_markets}
 use Rattle.rm_market.specs.Best.{values_of}
 use Rattle.rm_market.specs.Market.{Market, IsMarket, wishes_of, IsStableIn}
 use Rattle.rm_valuation_laws.specs.Changes.{test_at}
+use Rattle.rm_valuation_laws.specs.Order.{IsRoot}
 use Rattle.rm_valuation_laws.proofs.Best.{best_unique}
 use Rattle.rm_valuation_laws.proofs.Order.{root_of_walk}
 use Rattle.rm_valuation_laws.proofs.Market.{concave_board}
@@ -34,6 +31,13 @@ module _ (m : Market) (ok : IsMarket m) where
       (best_part (length m.lists) m.board ok.board test agree X (plain m X) set (plain_best m ok X set))
       (plain_best m ok (filter test X) f)
 
+  -- an outermost node divides none
+  pub root_divides_none : (a : ℕ) → a < length m.board.nodes → IsRoot m.board a → NodesAgree m.board (test_at m.board a)
+  root_divides_none a la root k x y lt lx ly i j =
+      same_tests (test_at m.board a x) (test_at m.board a y)
+      (λ h. root_of_walk m.board (concave_board (length m.lists) m.board ok.board) a x k la lt root h i y j)
+      (λ h. root_of_walk m.board (concave_board (length m.lists) m.board ok.board) a y k la lt root h j x i)
+
   module _ (S : List ℕ) (s : IsStableIn m S) where
     same_apart : (test : ℕ → Bool) → NodesAgree m.board test → HaveAsMany m S test
     same_apart test agree T t =
@@ -47,10 +51,7 @@ module _ (m : Market) (ok : IsMarket m) where
     pub fills_the_same : FillsTheSame m S
     fills_the_same = record {
       apart = same_apart;
-      roots = λ a la root. same_apart (test_at m.board a) (λ k x y lt lx ly i j.
-          same_tests (test_at m.board a x) (test_at m.board a y)
-          (λ h. root_of_walk m.board (concave_board (length m.lists) m.board ok.board) a x k la lt root h i y j)
-          (λ h. root_of_walk m.board (concave_board (length m.lists) m.board ok.board) a y k la lt root h j x i));
+      roots = λ a la root. same_apart (test_at m.board a) (root_divides_none a la root);
       hospitals = λ h alone. same_apart (λ x. eqb (hospital_of m.board x) h) (λ k x y lt lx ly i j.
           same_tests (eqb (hospital_of m.board x) h) (eqb (hospital_of m.board y) h)
           (λ e. eq-eqb (hospital_of m.board y) h (alone k x y lt lx ly i j (eqb-true (hospital_of m.board x) h e)))

@@ -1,25 +1,34 @@
 -- Sets that aren't stable as Kamada and Kojima say, one for each thing that they ask of a set and of a blocking pair.
-use Rattle.std.proofs.Common.{◌<◌, ◌≤◌, [], ◌∷◌, ◌<ℤ◌, refl, inl, inr, arith}
+use Rattle.std.proofs.Common.{◌<◌, ◌≤◌, List, [], ◌∷◌, ◌<ℤ◌, refl, sym, inl, inr, arith, true≢false}
 use Rattle.std.proofs.lemmas.Int.{ints}
 use Rattle.rm_market.specs.Best.{swapped}
 use Rattle.rm_market.specs.Flexible.{Region}
 use Rattle.rm_market.proofs.OnLiterals.{market_on_literals}
+use Rattle.rm_market.proofs.Small.{two_region}
 use Rattle.rm_flexible_laws.specs.Region.{IsPlace, seat_at}
 use Rattle.rm_kamada_kojima_laws.specs.Stability.{IsKKStable, over_target}
-use Rattle.rm_kamada_kojima_laws.proofs.SharedSeat.{regions, first_place}
+use Rattle.rm_kamada_kojima_laws.proofs.SharedSeat.{regions, shared, first_place}
 use Rattle.rm_kamada_kojima_laws.proofs.Examples.{alone, pair}
 use Rattle.rm_kamada_kojima_laws.proofs.NoBest.{rivals}
 
--- a doctor has two places
-two_places : ¬ IsKKStable pair regions (0 ∷ 2 ∷ [])
-two_places s = let e = s.placement.once 0 2 refl refl refl in absurd (omega (arith, e))
+-- the two hospitals, each with its one seat, in a region with two seats
+abbrev roomy : List Region
+roomy = record { cap = 2; seats = two_region.seats } ∷ []
+
+-- a doctor has two places, within all caps, and wants nothing more
+two_places : ¬ IsKKStable alone roomy (0 ∷ 1 ∷ [])
+two_places s = let e = s.placement.once 0 1 refl refl refl in absurd (omega (arith, e))
+
+-- a doctor who lists nothing has a place
+unlisted : ¬ IsKKStable (shared (0 ∷ []) [] ([] ∷ [])) regions (0 ∷ [])
+unlisted s = true≢false (sym (s.placement.listed 0 refl))
 
 -- two doctors have the one seat of the region
 over_cap : ¬ IsKKStable rivals regions (0 ∷ 1 ∷ [])
 over_cap s = let le : 2 ≤ 1 = s.caps.in_caps 0 (omega arith) in absurd (omega arith)
 
--- and two the one seat of a hospital
-over_capacity : ¬ IsKKStable pair regions (0 ∷ 1 ∷ [])
+-- and two the one seat of a hospital, which is the only one that they list, in a region with two seats
+over_capacity : ¬ IsKKStable (shared (0 ∷ 1 ∷ []) [] ((0 ∷ []) ∷ (0 ∷ []) ∷ [])) roomy (0 ∷ 1 ∷ [])
 over_capacity s = let le : 2 ≤ 1 = s.caps.in_capacities 0 0 (omega arith) (omega arith) in absurd (omega arith)
 
 -- nobody is placed, though the region has a seat
