@@ -6,4 +6,5 @@ pub mod Placed
 pub mod PlacesWithin
 pub mod Reporting
 mod WrongAnswers
+mod WrongEndings
 pub mod WithoutPolicy
