@@ -8,8 +8,21 @@ use Rattle.rm_outside.specs.Outside.{HasRisen}
 use Rattle.rm_case.specs.Case.{CaseData, market, market_of}
 use Rattle.rm_report.specs.Texts.{placement_text, check_text, certificate_text}
 use Rattle.rm_top.specs.Answers.{
-  bad_words, no_memory, read_failed, refused, write_failed, written, HasAnswered, IsChoiceText, IsComplete, IsErrorText, IsPlacementText, IsRefusedWhere,
-  Reports, WrotePart, WroteText,
+  bad_words,
+  no_memory,
+  read_failed,
+  refused,
+  write_failed,
+  written,
+  HasAnswered,
+  IsChoiceText,
+  IsComplete,
+  IsErrorText,
+  IsPlacementText,
+  IsRefusedWhere,
+  Reports,
+  WrotePart,
+  WroteText,
 }
 use Rattle.rm_top.specs.Command.{Command, file_of, folder_in, refusal_of, usage_text}
 use Rattle.rm_top.specs.Texts.{refusal_text, read_fault_text}
