@@ -128,6 +128,15 @@ pub const UNKNOWN_DOCTOR: u8 = 60;
 /// A name of no hospital.
 pub const UNKNOWN_HOSPITAL: u8 = 61;
 
+/// A doctor and a hospital that isn't on his list, or doesn't rank him; `b` is 2.
+pub const NOT_LISTED: u8 = 62;
+
+/// A doctor who stands before; `b` is the former row.
+pub const REPEATED_DOCTOR: u8 = 63;
+
+/// A doctor who stands in no row; `a` is his number, counted from 1, and `b` is 0.
+pub const DOCTOR_MISSING: u8 = 64;
+
 /// A doctor and a hospital that doesn't rank him.
 pub const NOT_CONTRACT: u8 = 65;
 

@@ -22,13 +22,25 @@ use std::marker::Model;
 
 /// The board of a market: its contracts, the tree of its nodes with the steps of each, and the tie order. Contracts and nodes
 /// count from 0; node h is hospital h, and the groups follow.
-#[derive(Drop)]
 pub struct Board {
     contracts: Contracts,
     tree: Tree,
     steps: Vec<Steps>,
     places: Vec<u32>,
     ranked: bool,
+}
+
+// (Whoever drops one calls this, and has not to drop its parts one by one.)
+impl Drop for Board {
+    fn drop(self) {
+        let Board {
+            contracts: _,
+            tree: _,
+            steps: _,
+            places: _,
+            ranked: _,
+        } = self;
+    }
 }
 
 impl Model for Board {

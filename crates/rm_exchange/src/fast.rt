@@ -23,7 +23,8 @@ use rm_choice::{Holder, NoMemory, Outcome};
 use rm_valuation::next_step;
 use std::alloc::Global;
 
-/// Holds the best subset of what it was offered: the feasible set of greatest worth, of equal worth the first in tie order.
+/// Holds, after each offer, the best subset of what it held and the offer: the feasible set of greatest worth, of equal worth the first
+/// in tie order.
 ///
 /// An offer displaces at most one held contract. At a hospital that is full by itself this is the last one there, and an offer
 /// that comes later still is refused with nothing else looked at. Elsewhere an offer walks along its chain of nodes up to the

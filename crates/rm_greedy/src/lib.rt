@@ -32,7 +32,7 @@ pub struct Greedy<'a> {
     ghost ranked: { AreLeavesRanked board.now },
 }
 
-/// A holder that holds the best subset of what it was offered.
+/// A holder that holds, after each offer, the best subset of what it held and the offer.
 pub type PlainHolder<'a> = ChoiceHolder<Greedy<'a>>;
 
 impl<'a> Greedy<'a> {

@@ -91,7 +91,6 @@ impl AllGroups {
 }
 
 /// What a policy says of the hospitals of a roster.
-#[derive(Drop)]
 pub struct Policy {
     kind: Kind,
     ties: Ties,
@@ -99,6 +98,20 @@ pub struct Policy {
     groups: AllGroups,
     orders: Vec<Option<Vec<u32>>>,
     hospital_steps: HospitalSteps,
+}
+
+// (Whoever drops one calls this, and has not to drop its parts one by one.)
+impl Drop for Policy {
+    fn drop(self) {
+        let Policy {
+            kind: _,
+            ties: _,
+            listed: _,
+            groups: _,
+            orders: _,
+            hospital_steps: _,
+        } = self;
+    }
 }
 
 impl Model for Policy {

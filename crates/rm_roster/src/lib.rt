@@ -30,13 +30,24 @@ pub type RosterFault = ReadFault;
 
 /// What the files of hospitals, doctors and rank lists say. Hospitals and doctors are numbered from 0 in the order of their
 /// rows, prefectures in the order of their first appearance.
-#[derive(Drop)]
 pub struct Roster {
     hospitals: Hospitals,
     doctors: Doctors,
     ranks: Lists,
     // The hospitals of each prefecture.
     by_prefecture: rm_lists::Lists<u32>,
+}
+
+// (Whoever drops one calls this, and has not to drop its parts one by one.)
+impl Drop for Roster {
+    fn drop(self) {
+        let Roster {
+            hospitals: _,
+            doctors: _,
+            ranks: _,
+            by_prefecture: _,
+        } = self;
+    }
 }
 
 impl Model for Roster {
