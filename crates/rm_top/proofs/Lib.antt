@@ -1,5 +1,6 @@
 pub mod Answering
 pub mod Chosen
+mod Offered
 pub mod OwnRows
 pub mod Pieces
 pub mod Placed
