@@ -6,7 +6,7 @@ use Rattle.std.proofs.lemmas.List.{get_or-map, get_or_append_left, length-map, m
 use Rattle.std.proofs.lemmas.Option.{get_or_from_slice_get, slice_get_within}
 use Rattle.rm_base.specs.Checks.{first_of}
 use Rattle.rm_board.specs.Boards.{board_of as built_board}
-use Rattle.rm_board.specs.Rules.{AreKnown, fault_of, order_of}
+use Rattle.rm_board.specs.Rules.{fault_of, order_of}
 use Rattle.rm_board.specs.declared.ties.TieRule.{TieRule}
 use Rattle.rm_board.specs.declared.ties.TieRule.TheVariants as rule
 use Rattle.rm_board_laws.specs.HospitalBoards.{hospital_nodes}
@@ -18,7 +18,7 @@ use Rattle.rm_sets.specs.Sets.{below, IsSetBelow}
 use Rattle.rm_sets.proofs.Once.{get_or-below, length-below}
 use Rattle.rm_case.specs.Case.{board_checks, ties_fault}
 use Rattle.rm_case.specs.Compiled.{compiled_board, compiled_steps, tie_order_of}
-use Rattle.rm_case.specs.Suits.{SuitsRoster, IsRuleOf}
+use Rattle.rm_case.specs.Suits.{IsRuleOf}
 use Rattle.rm_case.specs.NodeSteps.{node_steps}
 
 -- the groups are sets of hospitals, as vectors

@@ -1,13 +1,16 @@
 mod BoardLemmas
+mod ChoiceRows
 mod SuitsLemmas
 mod FolderChecks
 mod Markets
+pub mod NumberedRows
 mod OfferRows
 mod OrderLemmas
 mod Regions
 mod RegionsEntries
 mod RegionsNodes
 mod RegionsSums
+mod ReplacedLists
 mod Solved
 mod Titles
 mod Told

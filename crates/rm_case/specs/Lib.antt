@@ -9,4 +9,5 @@ pub mod NodeSteps
 pub mod Loading
 pub mod Fetching
 pub mod Own
+pub mod Choices
 pub mod Solving

@@ -1,5 +1,5 @@
 -- The steps of a board's nodes, and the turns of hospitals in the orders of their prefectures.
-use Rattle.std.specs.Prelude.{ℕ, ◌+◌, ◌-◌, ◌*◌, ◌<◌, ◌≤◌, ◌==◌, List, [], ◌∷◌, ◌++◌, map, get_or, length, set, Option, Some, None, ℤ, pos, ◌-ℤ◌, int_lt, position, if◌then◌else◌}
+use Rattle.std.specs.Prelude.{ℕ, ◌+◌, ◌-◌, ◌*◌, ◌<◌, ◌≤◌, ◌==◌, List, [], ◌∷◌, ◌++◌, map, get_or, length, ℤ, pos, ◌-ℤ◌, int_lt, position, if◌then◌else◌}
 use Rattle.std.specs.List.{IsDistinct, range_with_len}
 use Rattle.std.specs.Option.{option_map_or}
 use Rattle.rm_market.specs.Tree.{below}

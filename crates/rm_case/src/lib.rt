@@ -2,6 +2,7 @@
 #![tactic(auto)]
 
 mod case;
+mod choices;
 mod compile;
 mod fault;
 mod folder;
@@ -9,15 +10,19 @@ mod load;
 mod node_steps;
 mod offers;
 mod own_file;
+mod pair;
 mod places;
+mod replaced;
 mod solve;
 mod table_file;
 mod turns;
 
 pub use case::{Case, NodeName};
+pub use choices::Choices;
 pub use fault::{LoadFault, OwnFault};
 pub use offers::Offers;
 pub use own_file::fetch_own;
+pub use pair::Pair;
 pub use places::Places;
 
 #[cfg(test)]

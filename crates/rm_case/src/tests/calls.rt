@@ -1,7 +1,7 @@
 // What the public calls answer of one folder.
 
 use super::folders::{case_of, shelf_of};
-use crate::{Case, NodeName, Offers, fetch_own};
+use crate::{Case, Choices, NodeName, Offers, fetch_own};
 use rm_base::NoMemory;
 use std::alloc::Global;
 use std::test::Fail;
@@ -32,12 +32,34 @@ fn are_offered(alloc: Global, case: &Case) -> Result<bool, NoMemory> {
     Ok(offers.contracts() == [2, 1].as_slice() && ascending.as_slice() == [1, 2].as_slice())
 }
 
-// Whether all three hold of the folder's case.
+// Whether the list of the file is H2 alone, and with it in A's place he has none and B is placed at H1.
+fn is_replaced(alloc: Global, case: &Case) -> Result<bool, NoMemory> {
+    let mut shelf = shelf_of(alloc)?;
+    let Ok(table) = fetch_own(alloc, &mut shelf, "list.csv") else {
+        return Ok(false);
+    };
+    let Ok(choices) = Choices::read(alloc, case, &table) else {
+        return Ok(false);
+    };
+    if case.roster().doctors().len() != 2 || choices.hospitals() != [1].as_slice() {
+        return Ok(false);
+    }
+    let listed = case.listed_with(alloc, 0, choices.hospitals())?;
+    let places = case.solve_with(alloc, &listed)?;
+    Ok(places.len() == 2 && places.get(0) == None && places.get(1) == Some(0))
+}
+
+// Whether all of this holds of the folder's case.
 fn all_hold(alloc: Global) -> Result<bool, NoMemory> {
     let Ok(case) = case_of(alloc) else {
         return Ok(false);
     };
-    Ok(is_solved(alloc, &case)? && are_named(&case) && are_offered(alloc, &case)?)
+    Ok(
+        is_solved(alloc, &case)?
+            && are_named(&case)
+            && are_offered(alloc, &case)?
+            && is_replaced(alloc, &case)?,
+    )
 }
 
 #[test]

@@ -5,9 +5,9 @@ use rm_base::NoMemory;
 use rm_outside::memory::SteadyShelf;
 use std::alloc::Global;
 
-// The files of a folder F, whose prefecture has one seat and an order with H1 first, and a file of offers. The contracts are 0 of A
-// and H1, 1 of B and H1, and 2 of A and H2.
-static FILES: [(&str, &[u8]); 5] = [
+// The files of a folder F, whose prefecture has one seat and an order with H1 first, a file of offers, and a list. The contracts are
+// 0 of A and H1, 1 of B and H1, and 2 of A and H2.
+static FILES: [(&str, &[u8]); 6] = [
     (
         "F/hospitals.csv",
         b"hospital,prefecture,capacity,target\nH1,P,1,0\nH2,P,1,0\n",
@@ -19,6 +19,7 @@ static FILES: [(&str, &[u8]); 5] = [
         b"version = 1\nkind = \"flexible\"\n[[prefecture]]\nname = \"P\"\ncap = 1\norder = [\"H1\", \"H2\"]\n",
     ),
     ("offers.csv", b"doctor,hospital\nA,H2\nB,H1\n"),
+    ("list.csv", b"hospital\nH2\n"),
 ];
 
 /// A shelf with these files.

@@ -1,6 +1,7 @@
 use Rattle.std.proofs.Common.{◌∙◌, ap, arith, get_or, None}
 use Rattle.rm_roster.specs.Cells.{field}
-use Rattle.rm_case.proofs.OfferRows.{found-name, found-number, hospital-low, contract-low, contract-is, no-contract, repeated, accepted}
+use Rattle.rm_case.proofs.NumberedRows.{found-name, hospital-low}
+use Rattle.rm_case.proofs.OfferRows.{found-number, contract-low, contract-is, no-contract, repeated, accepted}
 use Rattle.rm_case.proofs.offers.read_offer.Goals as goal
 
 pub find-requires-3 : goal.find-requires-3

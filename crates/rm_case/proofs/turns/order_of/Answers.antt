@@ -1,5 +1,5 @@
-use Rattle.std.proofs.Common.{◌≡◌, ◌∙◌, ℕ, Option, Some, None, List, [], ap, arith, refl, length, get_or, sym}
-use Rattle.std.specs.Prelude.{slice_get, option_and_then, unwrap_or}
+use Rattle.std.proofs.Common.{◌≡◌, ◌∙◌, ℕ, Option, Some, None, List, [], ap, refl, get_or, sym}
+use Rattle.std.specs.Prelude.{slice_get, unwrap_or}
 use Rattle.std.proofs.lemmas.Option.{get_or_from_slice_get}
 use Rattle.rm_names.specs.Names.{place_of}
 use Rattle.rm_base.specs.Text.{Text}
