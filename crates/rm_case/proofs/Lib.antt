@@ -8,7 +8,8 @@ mod Regions
 mod RegionsEntries
 mod RegionsNodes
 mod RegionsSums
-mod Solved
+mod RegionsTold
+pub mod Solved
 mod Titles
 mod Told
 mod TurnLemmas

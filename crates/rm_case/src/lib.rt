@@ -2,6 +2,7 @@
 #![tactic(auto)]
 
 mod case;
+mod case_regions;
 mod compile;
 mod fault;
 mod folder;
@@ -19,6 +20,7 @@ pub use fault::{LoadFault, OwnFault};
 pub use offers::Offers;
 pub use own_file::fetch_own;
 pub use places::Places;
+pub use solve::places_at;
 
 #[cfg(test)]
 mod tests;

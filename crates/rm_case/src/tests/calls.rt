@@ -32,12 +32,28 @@ fn are_offered(alloc: Global, case: &Case) -> Result<bool, NoMemory> {
     Ok(offers.contracts() == [2, 1].as_slice() && ascending.as_slice() == [1, 2].as_slice())
 }
 
-// Whether all three hold of the folder's case.
+// Whether the one region has a cap of 1 and both hospitals in the order of their turns, each with one seat and no target.
+fn is_region(alloc: Global, case: &Case) -> Result<bool, NoMemory> {
+    let regions = case.regions(alloc)?;
+    if regions.len() != 1 || regions[0].cap() != 1 || regions[0].seats().len() != 2 {
+        return Ok(false);
+    }
+    let seats = regions[0].seats();
+    let (first, second) = (seats[0], seats[1]);
+    Ok(first.hospital == 0 && first.target == 0 && first.capacity == 1 && second.hospital == 1)
+}
+
+// Whether all four hold of the folder's case.
 fn all_hold(alloc: Global) -> Result<bool, NoMemory> {
     let Ok(case) = case_of(alloc) else {
         return Ok(false);
     };
-    Ok(is_solved(alloc, &case)? && are_named(&case) && are_offered(alloc, &case)?)
+    Ok(
+        is_solved(alloc, &case)?
+            && are_named(&case)
+            && are_offered(alloc, &case)?
+            && is_region(alloc, &case)?,
+    )
 }
 
 #[test]
