@@ -1,8 +1,7 @@
 -- The doctor and the hospital of a contract have names.
-use Rattle.std.proofs.Common.{◌≡◌, ◌<◌, ℕ, length, map, get_or, arith, refl}
+use Rattle.std.proofs.Common.{◌≡◌, ◌<◌, ℕ, length, arith}
 use Rattle.std.proofs.lemmas.List.{get_or-map}
-use Rattle.rm_market.specs.Board.{contracts, contract_count, doctor_of, owners_of}
-use Rattle.rm_market.specs.Market.{wishes_of}
+use Rattle.rm_market.specs.Board.{contracts, contract_count, doctor_of}
 use Rattle.rm_market_laws.proofs.Wishes.{are_wishes, listed_long}
 use Rattle.rm_case.specs.Compiled.{compiled_board}
 use Rattle.rm_case.specs.Case.{CaseData, IsCase, market}

@@ -1,12 +1,10 @@
 -- A doctor has no more listed contracts than his list has hospitals.
-use Rattle.std.proofs.Common.{◌≡◌, ◌∙◌, ◌+◌, ◌≤◌, ◌<◌, ℕ, List, [], ◌∷◌, length, take, get_or, map, sum_by, Option, Some, None, refl, arith, ◌^◌}
+use Rattle.std.proofs.Common.{◌≡◌, ◌+◌, ◌≤◌, ◌<◌, ℕ, List, [], ◌∷◌, length, take, get_or, map, sum_by, Option, Some, None, arith, ◌^◌}
 use Rattle.std.specs.List.{filter_map, cons_option, enumerate_from}
 use Rattle.std.proofs.lemmas.List.Sums.{sum_by-cons, sum_by_more_le}
 use Rattle.rm_market.specs.Board.{number_of}
 use Rattle.rm_market.specs.Market.{wishes_of, listed_contracts}
-use Rattle.rm_roster.specs.Roster.{IsRoster}
 use Rattle.rm_case.specs.Case.{CaseData, IsCase, market}
-use Rattle.rm_report.specs.Texts.{listed_count}
 
 filter_map-few : (f : ℕ → Option ℕ) (xs : List ℕ) → length (filter_map f xs) ≤ length xs
 filter_map-few f [] = omega arith

@@ -1,15 +1,13 @@
 -- Texts of one small case, computed: a hospital in two groups, of which the inner one is its prefecture's entry, and four doctors.
-use Rattle.std.proofs.Common.{◌≡◌, ℕ, length, List, [], ◌∷◌, Option, Some, None, refl, codes, true, false, pos, negsuc}
+use Rattle.std.proofs.Common.{◌≡◌, length, [], ◌∷◌, Some, None, refl, codes, false, pos, negsuc}
 use Rattle.rm_sets.specs.Sets as sets
-use Rattle.rm_base.specs.Text.{Text}
 use Rattle.rm_market.specs.Board.{contract_count}
 use Rattle.rm_market.specs.Tree.{depth, chain}
-use Rattle.rm_market.specs.declared.CertRow.{CertRow}
 use Rattle.rm_policy.specs.declared.Kind.TheVariants.{Steps}
 use Rattle.rm_policy.specs.declared.Ties.TheVariants.{ByRank}
 use Rattle.rm_case.specs.Compiled.{compiled_board}
 use Rattle.rm_case.specs.Case.{CaseData, market}
-use Rattle.rm_report.specs.Texts.{csv_text, placement_text, listed_count, tree_depth, number_line, certificate_row}
+use Rattle.rm_report.specs.Texts.{csv_text, pair_text, placement_text, listed_count, tree_depth, number_line, certificate_row}
 use Rattle.csv.specs.Writing.{escaped, fields_text, is_blank}
 use Rattle.std.specs.Fmt.{digits}
 
@@ -39,6 +37,10 @@ small =
 placed : placement_text small (Some 0 ∷ None ∷ None ∷ None ∷ []) ≡ codes "doctor,hospital\nA,\"H,1\"\nB,\nC,\nD,\n"
 unfolding placement_text csv_text escaped fields_text is_blank
 placed = refl
+
+paired : pair_text small (Some 0 ∷ None ∷ None ∷ None ∷ []) (None ∷ Some 0 ∷ None ∷ None ∷ []) ≡ codes "doctor,declared,replaced\nA,\"H,1\",\nB,,\"H,1\"\nC,,\nD,,\n"
+unfolding pair_text csv_text escaped fields_text is_blank
+paired = refl
 
 contracts-counted : contract_count (market small).board ≡ 4
 unfolding compiled_board

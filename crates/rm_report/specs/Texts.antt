@@ -1,5 +1,5 @@
 -- The texts that the commands write about a case.
-use Rattle.std.specs.Prelude.{ℕ, ◌<◌, Bool, List, [], ◌∷◌, ◌++◌, map, flat_map, length, sum_by, codes, decimal, get_or, Option, None, All, IfSome, if◌then◌else◌}
+use Rattle.std.specs.Prelude.{◌≡◌, ℕ, ◌<◌, Bool, List, [], ◌∷◌, ◌++◌, map, flat_map, length, sum_by, codes, decimal, get_or, Option, None, All, IfSome, if◌then◌else◌}
 use Rattle.std.specs.List.{concat}
 use Rattle.std.specs.Option.{option_map_or}
 use Rattle.std.specs.Fmt.{signed_decimal}
@@ -51,6 +51,25 @@ placement_rows c places n = placement_header ∷ map (placement_row c places) (b
 
 unfoldable pub placement_text : CaseData → PlacesData → Text
 placement_text c places = csv_text (placement_rows c places (length c.roster.doctors))
+
+-- ---- pair: a row per doctor, with his places in two placements
+
+-- a place for each doctor of the case, each a hospital of the case
+abbrev pub ArePlaces : CaseData → PlacesData → Type 0
+ArePlaces c places = (length places ≡ length c.roster.doctors) × AreHospitals (length c.roster.hospitals) places
+
+abbrev pub pair_header : List Text
+pair_header = codes "doctor" ∷ codes "declared" ∷ codes "replaced" ∷ []
+
+abbrev pub pair_row : CaseData → PlacesData → PlacesData → ℕ → List Text
+pair_row c declared replaced d = doctor_name c d ∷ place_name c declared d ∷ place_name c replaced d ∷ []
+
+-- the header, and the rows of the first n doctors
+abbrev pub pair_rows : CaseData → PlacesData → PlacesData → ℕ → List (List Text)
+pair_rows c declared replaced n = pair_header ∷ map (pair_row c declared replaced) (below n)
+
+unfoldable pub pair_text : CaseData → PlacesData → PlacesData → Text
+pair_text c declared replaced = csv_text (pair_rows c declared replaced (length c.roster.doctors))
 
 -- ---- check: the counts of the market
 

@@ -3,10 +3,12 @@
 
 mod certificate;
 mod check;
+mod pair;
 mod placement;
 mod writing;
 
 pub use certificate::certificate_text;
 pub use check::check_text;
+pub use pair::pair_text;
 pub use placement::placement_text;
 pub use rm_base::NoMemory;

@@ -11,8 +11,8 @@ use std::alloc::Global;
 // A guess at the bytes of a row, by which the text's room is taken at once.
 const ROW_BYTES: usize = 16;
 
-// The name of the hospital where doctor d is placed, or nothing.
-fn place_name<'a>(case: &'a Case, places: &Places, d: u32) -> &'a str
+/// The name of the hospital where doctor d is placed, or nothing.
+pub fn place_name<'a>(case: &'a Case, places: &Places, d: u32) -> &'a str
     requires doctor { d < length places.now }
     requires hospitals { AreHospitals (length case.now.roster.hospitals) places.now }
     ensures { result.now ≡ place_name case.entry.now places.now d }

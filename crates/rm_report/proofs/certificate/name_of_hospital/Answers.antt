@@ -1,4 +1,4 @@
-use Rattle.std.proofs.Common.{◌<◌, [], length, sym}
+use Rattle.std.proofs.Common.{[], sym}
 use Rattle.std.proofs.lemmas.Option.{get_or_from_slice_get}
 use Rattle.rm_market.specs.Board.{hospital_of}
 use Rattle.rm_case.specs.Case.{market}

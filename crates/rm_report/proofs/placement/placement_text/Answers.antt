@@ -1,7 +1,7 @@
 use Rattle.std.proofs.Common.{◌≡◌, [], length, arith}
 use Rattle.std.proofs.lemmas.Option.{get_or_from_slice_get}
-use Rattle.rm_report.specs.Texts.{placement_text, placement_header}
-use Rattle.rm_report.proofs.TextRows.{csv-one, placement-more}
+use Rattle.rm_report.specs.Texts.{placement_text, placement_header, placement_row}
+use Rattle.rm_report.proofs.TextRows.{csv-one, row-more}
 use Rattle.rm_report.proofs.placement.placement_text.Goals as goal
 
 pub loop-d-init : goal.loop-d-init
@@ -10,7 +10,7 @@ loop-d-init c = rw (csv-one placement_header) (c.in_ok-write_row.ensures _ c.in_
 pub loop-d-preserved : goal.loop-d-preserved
 loop-d-preserved c =
     let doctor = get_or_from_slice_get c.args.case.now.roster.doctors c.loop-d.d c.name-doctor.result.now [] (rw (c.doctors-doctors.ensures.doctors, c.roster.ensures.roster) at c.name-doctor.ensures.name) in
-    rw (placement-more c.args.case.now c.args.places.now c.loop-d.d, doctor, ← c.place_name-hospital.ensures, ← c.as_bytes.ensures.value, ← c.as_bytes-in-loop-d.ensures.value)
+    rw (row-more placement_header (placement_row c.args.case.now c.args.places.now) c.loop-d.d, doctor, ← c.place_name-hospital.ensures, ← c.as_bytes.ensures.value, ← c.as_bytes-in-loop-d.ensures.value)
     (c.in_ok-write_row-2.ensures _ c.loop-d.invariant)
 
 pub returns : goal.returns
