@@ -10,7 +10,7 @@ pub type Files = [(&'static str, &'static [u8]); 4];
 
 /// A prefecture has one seat and an order with H1 first. The doctors are 0 and 1 for A and B, and the contracts 0 of A and H1,
 /// 1 of B and H1, and 2 of A and H2.
-pub static ONE_SEAT: Files = [
+pub const ONE_SEAT: Files = [
     (
         "F/hospitals.csv",
         b"hospital,prefecture,capacity,target\nH1,P,1,0\nH2,P,1,0\n",
@@ -25,7 +25,7 @@ pub static ONE_SEAT: Files = [
 
 /// A prefecture has three seats, an order with H1 first, and a target of 2 for H2. Each doctor has one contract of his number: 0
 /// to 2 at H1, and 3 to 5 at H2.
-pub static TARGET_OF_TWO: Files = [
+pub const TARGET_OF_TWO: Files = [
     (
         "F/hospitals.csv",
         b"hospital,prefecture,capacity,target\nH1,P,3,0\nH2,P,3,2\n",

@@ -22,7 +22,8 @@ fn has_hospital(region: &Region, h: u32) -> bool
 {
     let seats = region.seats();
     for i in 0..seats.len() {
-        if seats[i].hospital == h {
+        let seat = seats[i];
+        if seat.hospital == h {
             return true;
         }
     }

@@ -22,41 +22,47 @@ struct Row {
     places: &'static [Option<u32>],
 }
 
-// An offer with its outcome.
-const fn kept(x: u32) -> Turn {
-    Turn::Moved {
-        x,
-        outcome: Outcome::Kept,
-    }
-}
-
-const fn refused(x: u32) -> Turn {
-    Turn::Moved {
-        x,
-        outcome: Outcome::Refused,
-    }
-}
-
-const fn swapped(x: u32, z: u32) -> Turn {
-    Turn::Moved {
-        x,
-        outcome: Outcome::Swapped(z),
-    }
-}
-
-static ROWS: [Row; 4] = [
+const ROWS: [Row; 4] = [
     Row {
         name: "A first",
         files: &ONE_SEAT,
         order: &[0, 1, 0, 1],
-        turns: &[kept(2), swapped(1, 2), swapped(0, 1), Turn::Done],
+        turns: &[
+            Turn::Moved {
+                x: 2,
+                outcome: Outcome::Kept,
+            },
+            Turn::Moved {
+                x: 1,
+                outcome: Outcome::Swapped(2),
+            },
+            Turn::Moved {
+                x: 0,
+                outcome: Outcome::Swapped(1),
+            },
+            Turn::Done,
+        ],
         places: &[Some(0), None],
     },
     Row {
         name: "B first",
         files: &ONE_SEAT,
         order: &[1, 0, 0, 0],
-        turns: &[kept(1), refused(2), swapped(0, 1), Turn::Idle],
+        turns: &[
+            Turn::Moved {
+                x: 1,
+                outcome: Outcome::Kept,
+            },
+            Turn::Moved {
+                x: 2,
+                outcome: Outcome::Refused,
+            },
+            Turn::Moved {
+                x: 0,
+                outcome: Outcome::Swapped(1),
+            },
+            Turn::Idle,
+        ],
         places: &[Some(0), None],
     },
     Row {
@@ -71,13 +77,31 @@ static ROWS: [Row; 4] = [
         files: &TARGET_OF_TWO,
         order: &[0, 3, 1, 4, 1, 2, 5, 0],
         turns: &[
-            kept(0),
-            kept(3),
-            kept(1),
-            swapped(4, 1),
+            Turn::Moved {
+                x: 0,
+                outcome: Outcome::Kept,
+            },
+            Turn::Moved {
+                x: 3,
+                outcome: Outcome::Kept,
+            },
+            Turn::Moved {
+                x: 1,
+                outcome: Outcome::Kept,
+            },
+            Turn::Moved {
+                x: 4,
+                outcome: Outcome::Swapped(1),
+            },
             Turn::Done,
-            refused(2),
-            refused(5),
+            Turn::Moved {
+                x: 2,
+                outcome: Outcome::Refused,
+            },
+            Turn::Moved {
+                x: 5,
+                outcome: Outcome::Refused,
+            },
             Turn::Idle,
         ],
         places: &[Some(0), None, None, Some(1), Some(1), None],
