@@ -1,5 +1,5 @@
 -- From what there is to tell of a case to what there is to tell of a command.
-use Rattle.std.proofs.Common.{◌≡◌, ◌∙◌, ◌≤◌, ℕ, List, Option, Some, None, Ok, Err, IfSome, inl, inr, refl, subst, arith}
+use Rattle.std.proofs.Common.{◌≡◌, ◌∙◌, ◌≤◌, ◌++◌, ℕ, List, Option, Some, None, Ok, Err, IfSome, inl, inr, refl, subst, arith}
 use Rattle.std.proofs.lemmas.Bool.{ne_eqb}
 use Rattle.rm_base.specs.Text.{Text, Files}
 use Rattle.rm_base.specs.Checks.{first_of}
@@ -14,8 +14,8 @@ use Rattle.rm_case.specs.Loading.{Loads, LoadFails}
 use Rattle.rm_case.specs.declared.fault.LoadFault.{LoadFault}
 use Rattle.rm_case.specs.declared.fault.LoadFault.TheVariants as fault
 use Rattle.rm_top.specs.Answers.{IsAccepted}
-use Rattle.rm_top.specs.Command.{Command, folder_in, file_of, own_checks, own_file_in, own_refusal, own_rows, refusal_of, rows_checks}
-use Rattle.rm_top.specs.Telling.{HasCaseText, HasFailedOwn, HasText, HasTextOn, LoadsRows, StopsOnCase, StopsWith}
+use Rattle.rm_top.specs.Command.{Command, folder_in, file_of, own_checks, own_file_in, own_refusal, own_rows, refusal_of, rows_checks, word_checks}
+use Rattle.rm_top.specs.Telling.{AreWordsKnown, HasCaseText, HasFailedOwn, HasText, HasTextOn, LoadsRows, StopsOnCase, StopsWith}
 
 -- ---- of a loaded case
 
@@ -29,39 +29,55 @@ text_found (Some fs) command c text loads has =
     let same = loaded fs (folder_in command) c loads in
     ((c, same, has.0, has.1), rw same has.0)
 
-accepted : (files : Option Files) (command : Command) (c : CaseData) → IfSome files (λ fs. Loads (folder_of fs (folder_in command)) (Ok c)) → IsAccepted files (folder_in command)
-accepted None command c loads = tt
-accepted (Some fs) command c loads = (c, loaded fs (folder_in command) c loads)
+accepted : (files : Option Files) (command : Command) (c : CaseData) → IfSome files (λ fs. Loads (folder_of fs (folder_in command)) (Ok c)) → AreWordsKnown command c
+    → IsAccepted files command
+accepted None command c loads words = tt
+accepted (Some fs) command c loads words = (c, loaded fs (folder_in command) c loads, words)
+
+-- ---- of its words
+
+pub word_refused : (files : Option Files) (command : Command) (c : CaseData) (r : Refusal) → first_of (word_checks command.kind c command.words) ≡ Some r
+    → IfSome files (λ fs. own_refusal fs command c ≡ Some r)
+word_refused None command c r some = tt
+word_refused (Some fs) command c r some =
+    first-some (word_checks command.kind c command.words) (own_checks fs (own_file_in command) ++ rows_checks command.kind c (own_rows fs command)) r some
+
+-- where nothing of them is refused, its own file decides
+file_decides : (fs : Files) (command : Command) (c : CaseData) → AreWordsKnown command c
+    → own_refusal fs command c ≡ first_of (own_checks fs (own_file_in command) ++ rows_checks command.kind c (own_rows fs command))
+file_decides fs command c words =
+    first-none (word_checks command.kind c command.words) (own_checks fs (own_file_in command) ++ rows_checks command.kind c (own_rows fs command)) words
 
 -- ---- of the rows of its own file
 
 -- where nothing of the file is refused, its rows decide
-rows_decide : (fs : Files) (command : Command) (c : CaseData) (rows : List Row) → first_of (own_checks fs (own_file_in command)) ≡ None → rows ≡ own_rows fs command
+rows_decide : (fs : Files) (command : Command) (c : CaseData) (rows : List Row) → AreWordsKnown command c → first_of (own_checks fs (own_file_in command)) ≡ None → rows ≡ own_rows fs command
     → own_refusal fs command c ≡ first_of (rows_checks command.kind c rows)
-rows_decide fs command c rows none are =
-    rw are (first-none (own_checks fs (own_file_in command)) (rows_checks command.kind c (own_rows fs command)) none)
+rows_decide fs command c rows words none are =
+    file_decides fs command c words
+    ∙ rw are (first-none (own_checks fs (own_file_in command)) (rows_checks command.kind c (own_rows fs command)) none)
 
-pub rows_told : (files : Option Files) (command : Command) (c : CaseData) (rows : List Row) (text : Text) → LoadsRows files command (Ok rows)
-    → HasCaseText command.kind c rows text → HasTextOn files command c text
-rows_told None command c rows text told has = tt
-rows_told (Some fs) command c rows text told has = (rows_decide fs command c rows told.0 told.1 ∙ has.0, rw told.1 at has.1)
+pub rows_told : (files : Option Files) (command : Command) (c : CaseData) (rows : List Row) (text : Text) → AreWordsKnown command c → LoadsRows files command (Ok rows)
+    → HasCaseText command c rows text → HasTextOn files command c text
+rows_told None command c rows text words told has = tt
+rows_told (Some fs) command c rows text words told has = (rows_decide fs command c rows words told.0 told.1 ∙ has.0, rw told.1 at has.1)
 
-pub rows_refused : (files : Option Files) (command : Command) (c : CaseData) (rows : List Row) (r : Refusal) → LoadsRows files command (Ok rows)
+pub rows_refused : (files : Option Files) (command : Command) (c : CaseData) (rows : List Row) (r : Refusal) → AreWordsKnown command c → LoadsRows files command (Ok rows)
     → first_of (rows_checks command.kind c rows) ≡ Some r → IfSome files (λ fs. own_refusal fs command c ≡ Some r)
-rows_refused None command c rows r told some = tt
-rows_refused (Some fs) command c rows r told some = rows_decide fs command c rows told.0 told.1 ∙ some
+rows_refused None command c rows r words told some = tt
+rows_refused (Some fs) command c rows r words told some = rows_decide fs command c rows words told.0 told.1 ∙ some
 
-file_refused : (files : Option Files) (command : Command) (c : CaseData) (r : Refusal) → LoadsRows files command (Err (fault.Refused r))
+file_refused : (files : Option Files) (command : Command) (c : CaseData) (r : Refusal) → AreWordsKnown command c → LoadsRows files command (Err (fault.Refused r))
     → IfSome files (λ fs. own_refusal fs command c ≡ Some r)
-file_refused None command c r told = tt
-file_refused (Some fs) command c r told = first-some (own_checks fs (own_file_in command)) (rows_checks command.kind c (own_rows fs command)) r told
+file_refused None command c r words told = tt
+file_refused (Some fs) command c r words told = file_decides fs command c words ∙ first-some (own_checks fs (own_file_in command)) (rows_checks command.kind c (own_rows fs command)) r told
 
 -- what stops the fetch of the file stops the command on its case
 pub file_stops : (files : Option Files) (before after : ℕ) (blame : Option (Option Text)) (command : Command) (c : CaseData) (f : LoadFault)
-    → LoadsRows files command (Err f) → HasFailedOwn before after blame command f → StopsOnCase files before after blame command c f
-file_stops files before after blame command c (fault.Refused r) told failed = file_refused files command c r told
-file_stops files before after blame command c (fault.Read file) told failed = failed
-file_stops files before after blame command c fault.NoMemory told failed = tt
+    → AreWordsKnown command c → LoadsRows files command (Err f) → HasFailedOwn before after blame command f → StopsOnCase files before after blame command c f
+file_stops files before after blame command c (fault.Refused r) words told failed = file_refused files command c r words told
+file_stops files before after blame command c (fault.Read file) words told failed = (failed, words)
+file_stops files before after blame command c fault.NoMemory words told failed = tt
 
 -- ---- of a fault
 
@@ -78,8 +94,8 @@ refused_own (Some fs) command c r loads own = rw (loaded fs (folder_in command) 
 pub stops_later : (files : Option Files) (before between after : ℕ) (blame : Option (Option Text)) (command : Command) (c : CaseData) (f : LoadFault)
     → IfSome files (λ fs. Loads (folder_of fs (folder_in command)) (Ok c)) → before ≤ between → StopsOnCase files between after blame command c f → StopsWith files before after blame command f
 stops_later files before between after blame command c (fault.Refused r) loads le h = refused_own files command c r loads h
-stops_later files before between after blame command c (fault.Read file) loads le (name, own, is, failed) =
-    (risen_later before between after le failed.0, record { name = name; file_is = rw own is; needed = λ e. accepted files command c loads; blamed = failed.1 })
+stops_later files before between after blame command c (fault.Read file) loads le ((name, own, is, failed), words) =
+    (risen_later before between after le failed.0, record { name = name; file_is = rw own is; needed = λ e. accepted files command c loads words; blamed = failed.1 })
 stops_later files before between after blame command c fault.NoMemory loads le h = tt
 
 refused_folder : (files : Option Files) (command : Command) (r : Refusal) → IfSome files (λ fs. folder_refusal (folder_of fs (folder_in command)) ≡ Some r) → IfSome files (λ fs. refusal_of fs command ≡ Some r)

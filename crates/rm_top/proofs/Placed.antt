@@ -33,7 +33,7 @@ ends_in m regions S ok are is =
       ends = λ ds ended. is.only (procedure_after m regions ds).held ((runs_well_in m ok (flexible m.board regions) best).closed ds ended).optimal;
     }
 
-placed : (c : CaseData) (S : List ℕ) → IsCase c → IsTrue (is_feasible (market c).board S) → IsPlacementOf (market c) S → IsPlaced c S
+pub placed : (c : CaseData) (S : List ℕ) → IsCase c → IsTrue (is_feasible (market c).board S) → IsPlacementOf (market c) S → IsPlaced c S
 placed c S case feasible is = record {
   feasible = feasible;
   placement = is;

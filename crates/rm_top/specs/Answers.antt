@@ -1,16 +1,19 @@
 -- The answers of the program, each with its cause and with what it writes.
 use Rattle.std.specs.Prelude.{◌≡◌, ◌≢◌, ◌⊎◌, ℕ, List, [], Option, Some, None, Ok, IsSome, IfSome}
+use Rattle.rm_base.specs.Checks.{first_of}
 use Rattle.rm_base.specs.Text.{Text, Files}
 use Rattle.rm_base.specs.declared.Refusal.{Refusal}
 use Rattle.rm_base.specs.declared.codes.TheConstants.{OWN_FILE}
 use Rattle.rm_market.specs.Certificate.{certificate}
-use Rattle.rm_market.specs.Market.{Best, places_of}
+use Rattle.rm_market.specs.Market.{Best, places_of, replaced}
 use Rattle.rm_outside.specs.Outside.{HasRisen, Gains, GainsPart}
 use Rattle.rm_table.specs.Rows.{Row}
 use Rattle.rm_case.specs.Case.{CaseData, market_of, market}
-use Rattle.rm_case.specs.Own.{offers_of}
-use Rattle.rm_report.specs.Texts.{placement_text, check_text, certificate_text}
-use Rattle.rm_top.specs.Command.{Command, usage_text, folder_in, file_of, own_refusal, own_rows, refusal_of}
+use Rattle.rm_case.specs.Choices.{choices_of}
+use Rattle.rm_case.specs.Own.{doctor_in, offers_of}
+use Rattle.rm_laws.specs.WhatIf.{AreBothPlacements}
+use Rattle.rm_report.specs.Texts.{placement_text, pair_text, check_text, certificate_text}
+use Rattle.rm_top.specs.Command.{Command, usage_text, doctor_word, folder_in, file_of, own_refusal, own_rows, refusal_of, word_checks}
 use Rattle.rm_top.specs.Headline.{IsPlaced}
 use Rattle.rm_top.specs.Texts.{refusal_text, read_fault_text, write_fault_text, no_memory_text}
 use Rattle.rm_top.specs.declared.command.Kind.{Kind}
@@ -50,19 +53,30 @@ IsPlacementText c text = (S : List ℕ) × IsPlaced c S × (text ≡ placement_t
 abbrev pub IsChoiceText : CaseData → List ℕ → Text → Type 0
 IsChoiceText c offers text = (S : List ℕ) × Best (market c) offers S × (text ≡ certificate_text c (certificate (market c).board offers S))
 
--- the text of a command on the case of its folder and the rows of its own file
-abbrev pub IsCaseText : Kind → CaseData → List Row → Text → Type 0
-IsCaseText kinds.Place c rows text = IsPlacementText c text
-IsCaseText kinds.Check c rows text = text ≡ check_text c
-IsCaseText kinds.Choose c rows text = IsChoiceText c (offers_of c rows) text
+-- the text of the placement of a case and of the one with only the list of doctor d replaced, by which he gains nothing
+abbrev pub IsPairText : CaseData → ℕ → List ℕ → Text → Type 0
+IsPairText c d list text =
+    (S T : List ℕ) × IsPlaced c S × AreBothPlacements (market c) d list S T
+    × (text ≡ pair_text c (places_of (market c) S) (places_of (replaced (market c) d list) T))
+
+-- the same of the doctor whom a word names
+abbrev pub IsDoctorsText : CaseData → Text → List ℕ → Text → Type 0
+IsDoctorsText c word list text = (d : ℕ) × (doctor_in c word ≡ Some d) × IsPairText c d list text
+
+-- the text of a command with these words on the case of its folder and the rows of its own file
+abbrev pub IsCaseText : Kind → List Text → CaseData → List Row → Text → Type 0
+IsCaseText kinds.Place words c rows text = IsPlacementText c text
+IsCaseText kinds.Check words c rows text = text ≡ check_text c
+IsCaseText kinds.Choose words c rows text = IsChoiceText c (offers_of c rows) text
+IsCaseText kinds.WhatIf words c rows text = IsDoctorsText c (doctor_word words) (choices_of c rows) text
 
 -- ---- of every command
 
--- its text where the files are told: its folder is accepted, and so is its own file
+-- its text where the files are told: its folder is accepted, and so are its words and its own file
 abbrev pub IsTextOf : Option Files → Command → Text → Type 0
 IsTextOf files command text =
     IfSome files (λ fs. (c : CaseData) × (market_of fs (folder_in command) ≡ Ok c) × (own_refusal fs command c ≡ None)
-    × IsCaseText command.kind c (own_rows fs command) text)
+    × IsCaseText command.kind command.words c (own_rows fs command) text)
 
 -- ---- what `out` gained: some text of the command, or a front of it
 
@@ -78,21 +92,22 @@ pub record WrotePart (files : Option Files) (command : Option Command) (before a
 
 -- ---- the causes
 
--- status 3 comes exactly where the needed fetches answered and the folder, or else the command's own file, is refused
+-- status 3 comes exactly where the needed fetches answered and the folder, or else a word of the command or its own file, is refused
 abbrev pub IsRefusedWhere : Option Files → Option Command → ℕ → Type 0
 IsRefusedWhere files None status = Unit {0}
 IsRefusedWhere files (Some command) status =
     IfSome files (λ fs. (status ≡ refused → IsSome (refusal_of fs command)) × (IsSome (refusal_of fs command) → HasAnswered status → status ≡ refused))
 
--- the folder is accepted, so that the command's own file is asked for
-abbrev pub IsAccepted : Option Files → Text → Type 0
-IsAccepted files F = IfSome files (λ fs. (c : CaseData) × (market_of fs F ≡ Ok c))
+-- the folder and the words are accepted, so that the command's own file is asked for
+abbrev pub IsAccepted : Option Files → Command → Type 0
+IsAccepted files command =
+    IfSome files (λ fs. (c : CaseData) × (market_of fs (folder_in command) ≡ Ok c) × (first_of (word_checks command.kind c command.words) ≡ None))
 
 -- the file on which a read failed: one that the command needs, and the shelf's blame where it is told
 pub record FailedOn (files : Option Files) (blame : Option (Option Text)) (command : Command) (file : ℕ) : Type 0 where
   pub name : Text
   pub file_is : file_of command file ≡ Some name
-  pub needed : file ≡ OWN_FILE → IsAccepted files (folder_in command)
+  pub needed : file ≡ OWN_FILE → IsAccepted files command
   pub blamed : IfSome blame (λ b. b ≡ Some name)
 
 -- ---- what `err` gained

@@ -1,7 +1,7 @@
 -- What the product promises of a placement.
-use Rattle.std.specs.Prelude.{◌≡◌, true, ℕ, ◌<◌, List, ◌++◌, length, is_some, IsTrue, IsFalse}
+use Rattle.std.specs.Prelude.{◌≡◌, true, ℕ, ◌<◌, List, ◌++◌, length, is_some, IsTrue}
 use Rattle.rm_market.specs.Board.{is_feasible}
-use Rattle.rm_market.specs.Stable.{at, prefers_place}
+use Rattle.rm_market.specs.Stable.{at}
 use Rattle.rm_market.specs.Machine.{State, IsClosed}
 use Rattle.rm_market.specs.Market.{Market, IsList, IsStableIn, IsPlacementOf, replaced, wishes_of}
 use Rattle.rm_market.specs.Laws.{after}
@@ -10,13 +10,14 @@ use Rattle.rm_group_laws.specs.Markets.{NoGroupGains, NothingBetterIn, FillsTheS
 use Rattle.rm_kamada_kojima_laws.specs.Stability.{IsKKStable}
 use Rattle.rm_policy.specs.Top.{is_flexible}
 use Rattle.rm_case.specs.Case.{CaseData, market, regions}
+use Rattle.rm_laws.specs.WhatIf.{GainsNothing}
 
 -- no doctor gains by another list of hospitals: the market with only his list replaced has a placement, and no placement of it gives him a
 -- hospital that he prefers, by his first list, to the one that he has in S
 pub record NobodyGains (m : Market) (S : List ℕ) : Type 0 where
   pub exists : (d : ℕ) (list : List ℕ) → IsList m.board list → (T : List ℕ) × IsPlacementOf (replaced m d list) T
   pub no_gain : (d : ℕ) (list T : List ℕ) → d < length m.lists → IsList m.board list → IsPlacementOf (replaced m d list) T
-      → IsFalse (prefers_place (wishes_of m) d (at (wishes_of m) d T) (at (wishes_of m) d S))
+      → GainsNothing m d S T
 
 -- every stable set places the same doctors as S
 abbrev pub PlacesTheSame : Market → List ℕ → Type 0

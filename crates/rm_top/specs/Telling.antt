@@ -11,9 +11,8 @@ use Rattle.rm_case.specs.Loading.{LoadsData, HasFailedAt}
 use Rattle.rm_case.specs.declared.fault.LoadFault.{LoadFault}
 use Rattle.rm_case.specs.declared.fault.LoadFault.TheVariants as fault
 use Rattle.rm_top.specs.Answers.{FailedOn, IsCaseText, IsTextOf}
-use Rattle.rm_top.specs.Command.{Command, own_checks, own_file_in, own_refusal, own_rows, refusal_of, rows_checks}
+use Rattle.rm_top.specs.Command.{Command, own_checks, own_file_in, own_refusal, own_rows, refusal_of, rows_checks, word_checks}
 use Rattle.rm_top.specs.Texts.{refusal_text, read_fault_text}
-use Rattle.rm_top.specs.declared.command.Kind.{Kind}
 use Rattle.rm_top.specs.declared.ending.Ending.{Ending}
 use Rattle.rm_top.specs.declared.ending.Ending.TheVariants as end
 
@@ -31,17 +30,21 @@ HasFailedOwn before after blame command (fault.Read file) = (name : Text) × (fi
 HasFailedOwn before after blame command fault.NoMemory = Unit {0}
 
 -- nothing of the rows is refused, and this is the text
-abbrev pub HasCaseText : Kind → CaseData → List Row → Text → Type 0
-HasCaseText kind c rows text = (first_of (rows_checks kind c rows) ≡ None) × IsCaseText kind c rows text
+abbrev pub HasCaseText : Command → CaseData → List Row → Text → Type 0
+HasCaseText command c rows text = (first_of (rows_checks command.kind c rows) ≡ None) × IsCaseText command.kind command.words c rows text
 
--- nothing of a command's own file is refused, where the files are told, and this is the text
+-- nothing of a command's words and of its own file is refused, where the files are told, and this is the text
 abbrev pub HasTextOn : Option Files → Command → CaseData → Text → Type 0
-HasTextOn files command c text = IfSome files (λ fs. (own_refusal fs command c ≡ None) × IsCaseText command.kind c (own_rows fs command) text)
+HasTextOn files command c text = IfSome files (λ fs. (own_refusal fs command c ≡ None) × IsCaseText command.kind command.words c (own_rows fs command) text)
 
--- why there is no text: the first refusal of its own file, that file if the shelf failed at it, or want of memory
+-- nothing of a command's words is refused
+abbrev pub AreWordsKnown : Command → CaseData → Type 0
+AreWordsKnown command c = first_of (word_checks command.kind c command.words) ≡ None
+
+-- why there is no text: the first refusal of its words and its own file, that file if the shelf failed at it, or want of memory
 abbrev pub StopsOnCase : Option Files → ℕ → ℕ → Option (Option Text) → Command → CaseData → LoadFault → Type 0
 StopsOnCase files before after blame command c (fault.Refused r) = IfSome files (λ fs. own_refusal fs command c ≡ Some r)
-StopsOnCase files before after blame command c (fault.Read file) = HasFailedOwn before after blame command (fault.Read file)
+StopsOnCase files before after blame command c (fault.Read file) = HasFailedOwn before after blame command (fault.Read file) × AreWordsKnown command c
 StopsOnCase files before after blame command c fault.NoMemory = Unit {0}
 
 -- ---- of a command

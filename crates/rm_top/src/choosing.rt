@@ -1,17 +1,15 @@
 // The text of `choose`: of a file of offers, the best subset, with a row for each offer.
 
-ghost use Rattle.std.specs.Prelude.{◌≡◌, ◌<◌, [], filter, All, IfErr, IfOk};
+ghost use Rattle.std.specs.Prelude.{◌≡◌, ◌<◌, [], filter, None, All, IfErr, IfOk};
 ghost use Rattle.rm_base.specs.Checks.{first_of};
 ghost use Rattle.rm_sets.specs.Sets.{has, IsSetBelow};
 ghost use Rattle.rm_market.specs.Best.{IsBest, values_of};
 ghost use Rattle.rm_market.specs.Board.{contract_count};
 ghost use Rattle.rm_valuation.specs.Counts.{IsMarketBoard};
 ghost use Rattle.rm_case.specs.Case.{market};
+ghost use Rattle.rm_case.specs.Own.{offer_table_checks, offers_of};
 ghost use Rattle.rm_top.specs.Answers.{IsChoiceText};
 ghost use Rattle.rm_base.specs.Reading.{Stops};
-ghost use Rattle.rm_top.specs.Command.{rows_checks};
-ghost use Rattle.rm_top.specs.Telling.{HasCaseText};
-ghost use Rattle.rm_top.specs.declared.command.Kind.TheVariants as kinds;
 
 use crate::NoMemory;
 use rm_board::Board;
@@ -72,8 +70,8 @@ fn offers_text(alloc: Global, case: &Case, offers: &Offers) -> Result<Vec<u8>, N
 
 /// The text of the best subset of the offers that a table tells.
 pub fn choose_text(alloc: Global, case: &Case, table: &Table) -> Result<Vec<u8>, OwnFault>
-    ensures text { IfOk result (λ text. HasCaseText kinds.Choose case.now table.now text.items) }
-    ensures stops { IfErr result (Stops (first_of (rows_checks kinds.Choose case.now table.now))) }
+    ensures text { IfOk result (λ text. (first_of (offer_table_checks case.now table.now) ≡ None) × IsChoiceText case.now (offers_of case.now table.now) text.items) }
+    ensures stops { IfErr result (Stops (first_of (offer_table_checks case.now table.now))) }
 {
     let offers = match Offers::read(alloc, case, table) {
         Ok(offers) => offers,

@@ -1,12 +1,19 @@
 // The commands, by the words of a command line.
 
 ghost use Rattle.std.specs.Prelude.{◌≡◌, map, option_map, string_bytes};
-ghost use Rattle.rm_top.specs.Command.{command_of, folder_in, kind_of, own_at, own_file_in, word_at};
+ghost use Rattle.rm_top.specs.Command.{command_of, doctor_word, folder_in, kind_of, own_at, own_file_in, word_at};
 
 use std::marker::Model;
 
 /// The usage line.
-pub const USAGE: &str = "usage: rm_match place F | check F | choose F OFFERS\n";
+pub const USAGE: &str =
+    "usage: rm_match place F | check F | choose F OFFERS | whatif F DOCTOR LIST\n";
+
+/// The number that a refusal has in place of a file's where it speaks of a word.
+pub const WORDS: u8 = 0;
+
+/// The number of the word that names a doctor, counted from 1.
+pub const DOCTOR_WORD: u64 = 3;
 
 /// What a command does.
 #[derive(Clone, Copy, Debug)]
@@ -17,6 +24,8 @@ pub enum Kind {
     Check,
     /// Choose the best of the contracts in a file of offers.
     Choose,
+    /// Place the doctors, once as they are and once with another list of one of them.
+    WhatIf,
 }
 
 // What a first word asks for, with so many words in all.
@@ -27,6 +36,7 @@ fn kind_of(word: &str, count: usize) -> Option<Kind>
         2 if word == "place" => Some(Kind::Place),
         2 if word == "check" => Some(Kind::Check),
         3 if word == "choose" => Some(Kind::Choose),
+        4 if word == "whatif" => Some(Kind::WhatIf),
         _ => None,
     }
 }
@@ -38,6 +48,7 @@ impl Kind {
     {
         match self {
             Kind::Choose => Some(2),
+            Kind::WhatIf => Some(3),
             _ => None,
         }
     }
@@ -93,6 +104,13 @@ impl<'a> Command<'a> {
         ensures { result.now ≡ folder_in self.now }
     {
         word_at(self.words, 1)
+    }
+
+    /// Its doctor, the word after its folder; of a command that has one.
+    pub fn doctor(&self) -> &'a str
+        ensures { result.now ≡ doctor_word self.now.words }
+    {
+        word_at(self.words, 2)
     }
 
     /// Its own file, where it has one.

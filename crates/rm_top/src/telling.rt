@@ -4,12 +4,15 @@ ghost use Rattle.std.specs.Prelude.{◌≡◌, ◌≤◌, IfErr, IfOk};
 ghost use Rattle.rm_base.specs.Checks.{first_of};
 ghost use Rattle.rm_base.specs.Reading.{Stops};
 ghost use Rattle.rm_top.specs.Answers.{IsPlacementText};
-ghost use Rattle.rm_top.specs.Command.{rows_checks};
-ghost use Rattle.rm_top.specs.Telling.{HasCaseText, HasFailedOwn, HasText, HasTextOn, LoadsRows, StopsOnCase, StopsWith};
+ghost use Rattle.rm_top.specs.Command.{rows_checks, word_checks};
+ghost use Rattle.rm_top.specs.Telling.{AreWordsKnown, HasCaseText, HasFailedOwn, HasText, HasTextOn, LoadsRows, StopsOnCase, StopsWith};
 
 use crate::NoMemory;
 use crate::choosing::choose_text;
-use crate::command::{Command, Kind};
+use crate::command::{Command, DOCTOR_WORD, Kind, WORDS};
+use crate::replacing::whatif_text;
+use rm_base::Refusal;
+use rm_base::codes::UNKNOWN_DOCTOR;
 use rm_case::{Case, LoadFault, OwnFault, fetch_own};
 use rm_outside::Shelf;
 use rm_report::{check_text, placement_text};
@@ -24,15 +27,35 @@ fn place_text(alloc: Global, case: &Case) -> Result<Vec<u8>, NoMemory>
     placement_text(alloc, case, &places)
 }
 
-// The text of what a command does on the case of its folder and the table of its own file.
-fn text_on(alloc: Global, kind: Kind, case: &Case, own: &Table) -> Result<Vec<u8>, OwnFault>
-    ensures text { IfOk result (λ text. HasCaseText kind case.now own.now text.items) }
-    ensures stops { IfErr result (Stops (first_of (rows_checks kind case.now own.now))) }
+// The first refusal of a command's words, on the case of its folder.
+fn refused_word(command: &Command<'_>, case: &Case) -> Option<Refusal>
+    ensures { result ≡ first_of (word_checks command.now.kind case.now command.now.words) }
 {
-    let made = match kind {
+    match command.kind() {
+        Kind::WhatIf => match case.roster().doctors().find(command.doctor()) {
+            Some(_) => None,
+            None => Some(Refusal::new(UNKNOWN_DOCTOR, WORDS, DOCTOR_WORD, 0)),
+        },
+        _ => None,
+    }
+}
+
+// The text of what a command does on the case of its folder and the table of its own file.
+fn text_on(
+    alloc: Global,
+    command: &Command<'_>,
+    case: &Case,
+    own: &Table,
+) -> Result<Vec<u8>, OwnFault>
+    requires { AreWordsKnown command.now case.now }
+    ensures text { IfOk result (λ text. HasCaseText command.now case.now own.now text.items) }
+    ensures stops { IfErr result (Stops (first_of (rows_checks command.now.kind case.now own.now))) }
+{
+    let made = match command.kind() {
         Kind::Place => place_text(alloc, case),
         Kind::Check => check_text(alloc, case),
         Kind::Choose => return choose_text(alloc, case, own),
+        Kind::WhatIf => return whatif_text(alloc, case, command.doctor(), own),
     };
     match made {
         Ok(text) => Ok(text),
@@ -72,19 +95,22 @@ fn text_after<S: Shelf>(
     ensures files { S.files shelf.new ≡ S.files shelf.old }
     ensures later { S.faults shelf.old ≤ S.faults shelf.new }
 {
+    if let Some(refusal) = refused_word(command, case) {
+        return Err(LoadFault::Refused(refusal));
+    }
     let own = match own_table(alloc, command, shelf) {
         Ok(own) => own,
         Err(fault) => return Err(fault),
     };
-    match text_on(alloc, command.kind(), case, &own) {
+    match text_on(alloc, command, case, &own) {
         Ok(text) => Ok(text),
         Err(OwnFault::Refused(refusal)) => Err(LoadFault::Refused(refusal)),
         Err(OwnFault::NoMemory) => Err(LoadFault::NoMemory),
     }
 }
 
-/// The text of a command, or why there is none: the first refusal of its folder and then of its own file, a file that the shelf
-/// failed at, or want of memory.
+/// The text of a command, or why there is none: the first refusal of its folder, then of its words and of its own file, a file that
+/// the shelf failed at, or want of memory.
 pub fn text_of<S: Shelf>(
     alloc: Global,
     command: &Command<'_>,

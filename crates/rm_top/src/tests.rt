@@ -6,7 +6,7 @@ use rm_outside::memory::{MemoryShelf, MemorySink};
 use rm_outside::torn::TornSink;
 use std::test::Fail;
 
-// A call on the files of a folder F and of offers O, and what is wanted of it.
+// A call on the files of a folder F and on a file O of the command's own, and what is wanted of it.
 #[derive(Clone, Copy)]
 struct Row<'a> {
     name: &'static str,
@@ -15,7 +15,7 @@ struct Row<'a> {
     doctors: &'a [u8],
     ranks: Option<&'a [u8]>,
     policy: Option<&'a [u8]>,
-    offers: Option<&'a [u8]>,
+    own: Option<&'a [u8]>,
     // The numbers of the fetches, of the puts to `out` and of the puts to `err` that fail, counted from 1. The last number of
     // each list is that of the first one that isn't made.
     fetches: &'a [u32],
@@ -33,7 +33,7 @@ const PLACED: Row<'static> = Row {
     doctors: b"doctor,choices\nA,H1,H2\n",
     ranks: Some(b"hospital,doctors\nH2,A\n"),
     policy: None,
-    offers: None,
+    own: None,
     fetches: &[5],
     puts: &[2],
     reports: &[1],
@@ -68,7 +68,7 @@ const STEPS: Row<'static> = Row {
 const CHOSEN: Row<'static> = Row {
     name: "what each offer changes",
     words: &["choose", "F", "O"],
-    offers: Some(b"doctor,hospital\nA,H1\nB,H1\n"),
+    own: Some(b"doctor,hospital\nA,H1\nB,H1\n"),
     fetches: &[6],
     out: b"doctor,hospital,answer,change,full,swap_doctor,swap_hospital,swap_change\nA,H1,refused,-1,,B,H1,0\nB,H1,kept,0,,,,\n",
     ..STEPS
@@ -82,10 +82,19 @@ const FULL: Row<'static> = Row {
     policy: Some(
         b"version = 1\nkind = \"steps\"\n[[prefecture]]\nname = \"Q\"\ncap = 1\n[[group]]\nname = \"G\"\nhospitals = [\"H3\"]\ncap = 1\n",
     ),
-    offers: Some(b"doctor,hospital\nA,H1\nB,H1\nA,H2\nB,H2\nA,H3\nB,H3\n"),
+    own: Some(b"doctor,hospital\nA,H1\nB,H1\nA,H2\nB,H2\nA,H3\nB,H3\n"),
     out: b"doctor,hospital,answer,change,full,swap_doctor,swap_hospital,swap_change\nA,H1,kept,0,,,,\nB,H1,refused,,hospital H1,A,H1,0\n\
         A,H2,kept,0,,,,\nB,H2,refused,,prefecture Q,A,H2,0\nA,H3,kept,0,,,,\nB,H3,refused,,group G,A,H3,0\n",
     ..CHOSEN
+};
+
+const REPLACED: Row<'static> = Row {
+    name: "with his first choice alone a doctor has no place, and another has his",
+    words: &["whatif", "F", "A", "O"],
+    own: Some(b"hospital\nH2\n"),
+    fetches: &[6],
+    out: b"doctor,declared,replaced\nA,H1,\nB,,H1\n",
+    ..FLEXIBLE
 };
 
 const REFUSED: Row<'static> = Row {
@@ -99,12 +108,21 @@ const REFUSED: Row<'static> = Row {
     ..PLACED
 };
 
+const REFUSED_LIST: Row<'static> = Row {
+    name: "the list in a doctor's place is missing",
+    words: &["whatif", "F", "A", "O"],
+    doctors: b"doctor,choices\nA,H1\n",
+    fetches: &[6],
+    err: b"refused 10 5 0 0\n",
+    ..REFUSED
+};
+
 const NO_COMMAND: Row<'static> = Row {
     name: "no words",
     words: &[],
     fetches: &[1],
     status: 2,
-    err: b"usage: rm_match place F | check F | choose F OFFERS\n",
+    err: b"usage: rm_match place F | check F | choose F OFFERS | whatif F DOCTOR LIST\n",
     ..REFUSED
 };
 
@@ -126,7 +144,7 @@ const UNWRITTEN: Row<'static> = Row {
     ..PLACED
 };
 
-static WRITTEN_ROWS: [Row<'static>; 11] = [
+static WRITTEN_ROWS: [Row<'static>; 13] = [
     PLACED,
     Row {
         name: "no doctors and no ranks",
@@ -175,9 +193,15 @@ static WRITTEN_ROWS: [Row<'static>; 11] = [
     },
     CHOSEN,
     FULL,
+    REPLACED,
+    Row {
+        name: "an empty list withdraws a doctor",
+        own: Some(b"hospital\n"),
+        ..REPLACED
+    },
 ];
 
-static REFUSED_ROWS: [Row<'static>; 10] = [
+static REFUSED_ROWS: [Row<'static>; 17] = [
     REFUSED,
     Row {
         name: "a row that isn't text",
@@ -222,7 +246,7 @@ static REFUSED_ROWS: [Row<'static>; 10] = [
         name: "an offer of no doctor",
         words: &["choose", "F", "O"],
         doctors: b"doctor,choices\nA,H1\n",
-        offers: Some(b"doctor,hospital\nZ,H2\n"),
+        own: Some(b"doctor,hospital\nZ,H2\n"),
         fetches: &[6],
         err: b"refused 60 5 1 1\n",
         ..REFUSED
@@ -232,10 +256,47 @@ static REFUSED_ROWS: [Row<'static>; 10] = [
         words: &["choose", "F", "O"],
         ..REFUSED
     },
+    Row {
+        name: "the list of no doctor is not fetched",
+        words: &["whatif", "F", "Z", "O"],
+        fetches: &[5],
+        err: b"refused 60 0 3 0\n",
+        ..REFUSED_LIST
+    },
+    Row {
+        name: "where the folder is refused, no doctor is looked up",
+        words: &["whatif", "F", "Z", "O"],
+        ..REFUSED
+    },
+    REFUSED_LIST,
+    Row {
+        name: "a list that isn't text",
+        own: Some(b"hospital\nH1\n\xff\n"),
+        err: b"refused 12 5 2 0\n",
+        ..REFUSED_LIST
+    },
+    Row {
+        name: "a list without its header",
+        own: Some(b"H1\n"),
+        err: b"refused 13 5 0 1\n",
+        ..REFUSED_LIST
+    },
+    Row {
+        name: "a list with no hospital",
+        own: Some(b"hospital\nH2\nH9\n"),
+        err: b"refused 61 5 2 1\n",
+        ..REFUSED_LIST
+    },
+    Row {
+        name: "a list with a hospital twice",
+        own: Some(b"hospital\nH1\nH2\nH1\n"),
+        err: b"refused 21 5 3 1\n",
+        ..REFUSED_LIST
+    },
     NO_COMMAND,
 ];
 
-static FAILED_ROWS: [Row<'static>; 8] = [
+static FAILED_ROWS: [Row<'static>; 11] = [
     Row {
         name: "no file of offers",
         words: &["choose", "F"],
@@ -244,6 +305,11 @@ static FAILED_ROWS: [Row<'static>; 8] = [
     Row {
         name: "an unknown command",
         words: &["plan", "F"],
+        ..NO_COMMAND
+    },
+    Row {
+        name: "no file with a list",
+        words: &["whatif", "F", "A"],
         ..NO_COMMAND
     },
     UNREAD,
@@ -268,6 +334,25 @@ static FAILED_ROWS: [Row<'static>; 8] = [
         out: b"",
         err: b"read fault 5\n",
         ..CHOSEN
+    },
+    Row {
+        name: "the fetch of the list fails",
+        fetches: &[5, 6],
+        puts: &[1],
+        reports: &[2],
+        status: 4,
+        out: b"",
+        err: b"read fault 5\n",
+        ..REPLACED
+    },
+    Row {
+        name: "the put of both placements fails",
+        puts: &[1, 2],
+        reports: &[2],
+        status: 5,
+        out: b"",
+        err: b"write fault\n",
+        ..REPLACED
     },
     UNWRITTEN,
     Row {
@@ -304,7 +389,7 @@ fn add_files(shelf: &mut MemoryShelf, row: &Row<'_>) -> Result<(), NoMemory> {
     shelf.add("F/doctors.csv", row.doctors)?;
     add(shelf, "F/ranks.csv", row.ranks)?;
     add(shelf, "F/policy.toml", row.policy)?;
-    add(shelf, "O", row.offers)
+    add(shelf, "O", row.own)
 }
 
 // Makes the call of a row, and says whether all is as wanted, and whether the calls that come next are those that fail.
