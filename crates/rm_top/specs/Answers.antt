@@ -9,6 +9,7 @@ use Rattle.rm_outside.specs.Outside.{HasRisen, Gains, GainsPart}
 use Rattle.rm_table.specs.Rows.{Row}
 use Rattle.rm_case.specs.Case.{CaseData, market_of, market}
 use Rattle.rm_case.specs.Own.{offers_of}
+use Rattle.rm_report.specs.Report.{prefecture_text}
 use Rattle.rm_report.specs.Texts.{placement_text, check_text, certificate_text}
 use Rattle.rm_top.specs.Command.{Command, usage_text, folder_in, file_of, own_refusal, own_rows, refusal_of}
 use Rattle.rm_top.specs.Headline.{IsPlaced}
@@ -46,6 +47,10 @@ HasAnswered status = (status ≢ read_failed) × (status ≢ no_memory)
 abbrev pub IsPlacementText : CaseData → Text → Type 0
 IsPlacementText c text = (S : List ℕ) × IsPlaced c S × (text ≡ placement_text c (places_of (market c) S))
 
+-- the text of its report by prefectures
+abbrev pub IsReportText : CaseData → Text → Type 0
+IsReportText c text = (S : List ℕ) × IsPlaced c S × (text ≡ prefecture_text c (places_of (market c) S))
+
 -- the text of the best subset of some offers, with a row for each of them
 abbrev pub IsChoiceText : CaseData → List ℕ → Text → Type 0
 IsChoiceText c offers text = (S : List ℕ) × Best (market c) offers S × (text ≡ certificate_text c (certificate (market c).board offers S))
@@ -54,6 +59,7 @@ IsChoiceText c offers text = (S : List ℕ) × Best (market c) offers S × (text
 abbrev pub IsCaseText : Kind → CaseData → List Row → Text → Type 0
 IsCaseText kinds.Place c rows text = IsPlacementText c text
 IsCaseText kinds.Check c rows text = text ≡ check_text c
+IsCaseText kinds.Report c rows text = IsReportText c text
 IsCaseText kinds.Choose c rows text = IsChoiceText c (offers_of c rows) text
 
 -- ---- of every command

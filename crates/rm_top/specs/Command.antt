@@ -14,13 +14,14 @@ use Rattle.rm_top.specs.declared.command.Kind.{Kind}
 use Rattle.rm_top.specs.declared.command.Kind.TheVariants as kinds
 
 abbrev pub usage_text : Text
-usage_text = codes "usage: rm_match place F | check F | choose F OFFERS\n"
+usage_text = codes "usage: rm_match place F | check F | report F | choose F OFFERS\n"
 
 -- what a first word asks for, with so many words in all
 abbrev pub kind_of : Text → ℕ → Option Kind
 kind_of word count =
     if (count == 2) && bytes_eq word (codes "place") then Some kinds.Place
     else if (count == 2) && bytes_eq word (codes "check") then Some kinds.Check
+    else if (count == 2) && bytes_eq word (codes "report") then Some kinds.Report
     else if (count == 3) && bytes_eq word (codes "choose") then Some kinds.Choose
     else None
 
@@ -28,12 +29,14 @@ kind_of word count =
 abbrev pub own_at : Kind → Option ℕ
 own_at kinds.Place = None
 own_at kinds.Check = None
+own_at kinds.Report = None
 own_at kinds.Choose = Some 2
 
 -- the checks of the rows of a command's own file; a command without one has none
 abbrev pub rows_checks : Kind → CaseData → List Row → List (Option Refusal)
 rows_checks kinds.Place c rows = []
 rows_checks kinds.Check c rows = []
+rows_checks kinds.Report c rows = []
 rows_checks kinds.Choose c rows = offer_table_checks c rows
 
 -- ---- of every command

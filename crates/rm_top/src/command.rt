@@ -6,7 +6,7 @@ ghost use Rattle.rm_top.specs.Command.{command_of, folder_in, kind_of, own_at, o
 use std::marker::Model;
 
 /// The usage line.
-pub const USAGE: &str = "usage: rm_match place F | check F | choose F OFFERS\n";
+pub const USAGE: &str = "usage: rm_match place F | check F | report F | choose F OFFERS\n";
 
 /// What a command does.
 #[derive(Clone, Copy, Debug)]
@@ -15,6 +15,8 @@ pub enum Kind {
     Place,
     /// Count what the folder holds.
     Check,
+    /// Report the placement by prefectures.
+    Report,
     /// Choose the best of the contracts in a file of offers.
     Choose,
 }
@@ -26,6 +28,7 @@ fn kind_of(word: &str, count: usize) -> Option<Kind>
     match count {
         2 if word == "place" => Some(Kind::Place),
         2 if word == "check" => Some(Kind::Check),
+        2 if word == "report" => Some(Kind::Report),
         3 if word == "choose" => Some(Kind::Choose),
         _ => None,
     }

@@ -10,6 +10,7 @@ ghost use Rattle.rm_top.specs.Telling.{HasCaseText, HasFailedOwn, HasText, HasTe
 use crate::NoMemory;
 use crate::choosing::choose_text;
 use crate::command::{Command, Kind};
+use crate::prefectures::report_text;
 use rm_case::{Case, LoadFault, OwnFault, fetch_own};
 use rm_outside::Shelf;
 use rm_report::{check_text, placement_text};
@@ -32,6 +33,7 @@ fn text_on(alloc: Global, kind: Kind, case: &Case, own: &Table) -> Result<Vec<u8
     let made = match kind {
         Kind::Place => place_text(alloc, case),
         Kind::Check => check_text(alloc, case),
+        Kind::Report => report_text(alloc, case),
         Kind::Choose => return choose_text(alloc, case, own),
     };
     match made {
