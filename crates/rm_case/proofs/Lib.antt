@@ -10,8 +10,9 @@ mod Regions
 mod RegionsEntries
 mod RegionsNodes
 mod RegionsSums
+mod RegionsTold
 mod ReplacedLists
-mod Solved
+pub mod Solved
 mod Titles
 mod Told
 mod TurnLemmas

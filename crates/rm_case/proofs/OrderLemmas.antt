@@ -1,12 +1,14 @@
 -- The entry of a prefecture.
-use Rattle.std.proofs.Common.{◌≡◌, ◌∙◌, ◌<◌, ℕ, length, [], get_or, take, Some, sym, arith}
+use Rattle.std.proofs.Common.{◌≡◌, ◌∙◌, ◌<◌, ℕ, List, length, [], get_or, take, Option, Some, ap, sym, arith}
+use Rattle.std.specs.Prelude.{slice_get}
 use Rattle.std.specs.Str.{bytes_eq}
 use Rattle.std.proofs.lemmas.List.{get_or-take, length-take}
 use Rattle.std.proofs.lemmas.List.Quantifiers.{position-Some}
-use Rattle.std.proofs.lemmas.Option.{slice_get-get_or}
+use Rattle.std.proofs.lemmas.Option.{get_or_from_slice_get, slice_get-get_or}
 use Rattle.std.proofs.lemmas.Slice.Eq.{bytes_eq-Decides}
+use Rattle.rm_base.specs.Text.{Text}
 use Rattle.rm_names.specs.Names.{place_of}
-use Rattle.rm_policy.specs.Policy.{PolicyData}
+use Rattle.rm_policy.specs.Policy.{PolicyData, entry_names}
 use Rattle.rm_roster.specs.Roster.{RosterData, IsRoster}
 use Rattle.rm_case.specs.Compiled.{entry_of_prefecture}
 
@@ -25,3 +27,9 @@ pub names_prefecture : (r : RosterData) (p : PolicyData) (q g : ℕ) → IsRoste
 names_prefecture r p q g roster lt e =
     let named = entry_named r p q g e in
     rw named.1 (roster.prefectures.found q (get_or r.prefectures q []) (slice_get-get_or r.prefectures q [] lt))
+
+-- the entry of a prefecture, found by its name
+pub entry-found : (r : RosterData) (p : PolicyData) (q : ℕ) (names : List Text) (name : Text) (o : Option ℕ) → names ≡ r.prefectures → slice_get names q ≡ Some name → o ≡ place_of (entry_names p) name → entry_of_prefecture r p q ≡ o
+entry-found r p q names name o same at found =
+    let named : get_or r.prefectures q [] ≡ name = get_or_from_slice_get r.prefectures q name [] (rw same at at) in
+    ap (λ (t : Text). place_of (entry_names p) t) named ∙ sym found

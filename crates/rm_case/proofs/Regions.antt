@@ -131,7 +131,7 @@ module _ (r : RosterData) (p : PolicyData) (roster : IsRoster r) (policy : IsPol
         let same : entry.0 ≡ q = some_same entry.0 q (sym (names_prefecture r p entry.0 g roster entry.1.prefecture entry.1.entry) ∙ names_prefecture r p q g roster lt is) in
         (lg, subst (λ (k : ℕ). IsEntryOf r p k g) same entry.1)
 
-    region_good : (q : ℕ) → q < prefectures → IsRegion (region_of r p q)
+    pub region_good : (q : ℕ) → q < prefectures → IsRegion (region_of r p q)
     region_good q lt = record { targets = seat_targets q lt; cap = by (entry_of_prefecture r p q) refl; apart = hospitals_apart q lt }
       where
         by : (o : Option ℕ) → entry_of_prefecture r p q ≡ o → sum_by (λ s. s.target) (region_of r p q).seats ≤ cap_of_prefecture r p q
@@ -222,7 +222,7 @@ module _ (r : RosterData) (p : PolicyData) (roster : IsRoster r) (policy : IsPol
                 let lg : (hospitals + g) - hospitals < length p.groups.members = omega (arith, entry.0) in
                 inl (hospitals + g, omega (arith, entry.0, board_long), region_cap i (hospitals + g) low (cap_node i (hospitals + g) (omega arith) lg here))
 
-regions_are : (r : RosterData) (p : PolicyData) → is_flexible p.kind ≡ true → regions_of r p ≡ map (region_of r p) (below (length r.prefectures))
+pub regions_are : (r : RosterData) (p : PolicyData) → is_flexible p.kind ≡ true → regions_of r p ≡ map (region_of r p) (below (length r.prefectures))
 unfolding regions_of
 regions_are r p flexible = ap (λ (c : Bool). cond c (map (region_of r p) (below (length r.prefectures))) []) flexible
 

@@ -2,6 +2,7 @@
 #![tactic(auto)]
 
 mod case;
+mod case_regions;
 mod choices;
 mod compile;
 mod fault;
@@ -24,6 +25,7 @@ pub use offers::Offers;
 pub use own_file::fetch_own;
 pub use pair::Pair;
 pub use places::Places;
+pub use solve::places_at;
 
 #[cfg(test)]
 mod tests;

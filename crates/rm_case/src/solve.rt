@@ -65,8 +65,9 @@ fn place_with<H: Holder + Drop>(
     places_at(alloc, board, &desk, listed.len())
 }
 
-// The places of the doctors at a desk.
-fn places_at<H: Holder>(
+/// The places of the doctors at a desk of a board's contracts: for each the hospital of his held contract, counted from 0, or none.
+/// `NoMemory` is want of memory.
+pub fn places_at<H: Holder>(
     alloc: Global,
     board: &Board,
     desk: &Desk<'_, H>,

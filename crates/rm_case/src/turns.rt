@@ -74,8 +74,8 @@ fn give_turns(roster: &Roster, order: &[u32], turns: &mut Vec<Turn>)
     }
 }
 
-// The hospitals of a prefecture in the order of their turns: that of its entry, or else that of their rows.
-fn order_of<'a>(roster: &'a Roster, policy: &'a Policy, q: u32) -> &'a [u32]
+/// The hospitals of a prefecture in the order of their turns: that of its entry, or else that of their rows.
+pub(crate) fn order_of<'a>(roster: &'a Roster, policy: &'a Policy, q: u32) -> &'a [u32]
     requires { q < length roster.now.prefectures }
     ensures { result.now ≡ order_of_prefecture roster.now policy.now q }
 {

@@ -1,5 +1,5 @@
 -- Shelves and sinks in memory, some of whose calls fail by their numbers.
-use Rattle.std.specs.Prelude.{ℕ, ◌==◌, ◌++◌, ◌-◌, Bool, ◌||◌, nat_lt, List, length, Option, Some, Result, Ok, Err, refl}
+use Rattle.std.specs.Prelude.{ℕ, ◌==◌, ◌++◌, ◌-◌, Bool, ◌||◌, nat_lt, List, length, take, Option, Some, Result, Ok, Err, refl}
 use Rattle.std.specs.Coded.{Coded, code_by, coded×, coded_ℕ, coded_list, coded_option}
 use Rattle.std.specs.FinMap.{insert, code}
 use Rattle.std.specs.List.{list_any}
@@ -71,3 +71,14 @@ refuses s piece = is_failing s.failing (next_put s) || nat_lt s.room (length pie
 abbrev pub after_put : SinkData → Text → Result (Unit {0}) PutFault → SinkData
 after_put s piece (Ok _) = record s { bytes = s.bytes ++ piece; room = s.room - length piece; puts = next_put s }
 after_put s piece (Err fault) = record s { puts = next_put s; faults = next_count s.faults }
+
+-- a sink that tears what doesn't fit: what was written, the room that is left, and how many faults there were
+pub record TornData : Type 0 where
+  pub bytes : Text
+  pub room : ℕ
+  pub faults : ℕ
+
+-- such a sink after a put: of what doesn't fit it has as much as there was room for
+abbrev pub after_torn_put : TornData → Text → Result (Unit {0}) PutFault → TornData
+after_torn_put s piece (Ok _) = record s { bytes = s.bytes ++ piece; room = s.room - length piece }
+after_torn_put s piece (Err fault) = record { bytes = s.bytes ++ take s.room piece; room = 0; faults = next_count s.faults }

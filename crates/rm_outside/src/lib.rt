@@ -9,6 +9,7 @@ ghost use Rattle.rm_outside.specs.declared.FetchFault.TheVariants.{Failed};
 pub mod folder;
 pub mod memory;
 pub mod stream;
+pub mod torn;
 
 use std::alloc::{AllocError, Global};
 

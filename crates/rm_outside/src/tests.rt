@@ -4,6 +4,7 @@ use super::*;
 use crate::folder::{FolderShelf, read_up_to};
 use crate::memory::{MemoryShelf, MemorySink, SteadyShelf};
 use crate::stream::StreamSink;
+use crate::torn::TornSink;
 use std::io;
 use std::io::{ErrorKind, Read, Write};
 use std::test::Fail;
@@ -53,6 +54,18 @@ fn memory_sink_takes_what_fits(rt: HostRuntime) -> Result<(), Fail> {
     let third = sink.put(b"def");
     let fourth = sink.put(b"de");
     assert!(rt; first.is_ok() && second.is_err() && third.is_err() && fourth.is_ok());
+    assert!(rt; sink.bytes() == b"abcde".as_slice());
+    Ok(())
+}
+
+#[test]
+fn torn_sink_takes_what_there_is_room_for(rt: HostRuntime) -> Result<(), Fail> {
+    let mut sink = TornSink::new(rt.alloc(), 5)?;
+    let first = sink.put(b"abc");
+    let torn = sink.put(b"def");
+    let nothing = sink.put(b"");
+    let late = sink.put(b"g");
+    assert!(rt; first.is_ok() && torn.is_err() && nothing.is_ok() && late.is_err());
     assert!(rt; sink.bytes() == b"abcde".as_slice());
     Ok(())
 }

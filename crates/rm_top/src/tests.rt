@@ -3,6 +3,7 @@
 use super::*;
 use rm_outside::FetchFault;
 use rm_outside::memory::{MemoryShelf, MemorySink};
+use rm_outside::torn::TornSink;
 use std::test::Fail;
 
 // A call on the files of a folder F and on a file O of the command's own, and what is wanted of it.
@@ -362,6 +363,9 @@ static FAILED_ROWS: [Row<'static>; 11] = [
     },
 ];
 
+// Calls whose output has room for so many bytes and no more.
+static TORN_ROWS: [(Row<'static>, usize); 4] = [(PLACED, 0), (PLACED, 10), (STEPS, 10), (CHOSEN, 10)];
+
 // The words of a row.
 fn words_of(alloc: Global, row: &Row<'_>) -> Result<Vec<String>, NoMemory> {
     let mut words = Vec::new(alloc);
@@ -441,6 +445,25 @@ fn ends_at_the_first_fault(rt: HostRuntime) -> Result<(), Fail> {
     Ok(())
 }
 
+// Whether a call whose output is torn after so many bytes leaves these, and says that they aren't all.
+fn is_torn(alloc: Global, row: &Row<'_>, room: usize) -> Result<bool, NoMemory> {
+    let mut shelf = MemoryShelf::new(Vec::new(alloc));
+    add_files(&mut shelf, row)?;
+    let mut out = TornSink::new(alloc, room)?;
+    let mut err = TornSink::new(alloc, 100)?;
+    let words = words_of(alloc, row)?;
+    let status = run(alloc, &words, &mut shelf, &mut out, &mut err);
+    Ok(status == 5 && out.bytes() == &row.out[..room.min(row.out.len())] && err.bytes() == b"write fault\n".as_slice())
+}
+
+#[test]
+fn tells_that_the_output_is_torn(rt: HostRuntime) -> Result<(), Fail> {
+    for (row, room) in &TORN_ROWS {
+        assert!(rt; is_torn(rt.alloc(), row, *room)?);
+    }
+    Ok(())
+}
+
 #[test]
 fn says_want_of_memory(rt: HostRuntime) {
     let ending = Ending::NoMemory;
@@ -457,20 +480,25 @@ fn rows_of_many(alloc: Global, header: &str, end: &str) -> Result<Vec<u8>, NoMem
     Ok(text.into_bytes())
 }
 
-// The first wrong one of three calls whose text has two pieces.
-fn first_wrong_piece<'a>(
-    alloc: Global,
-    doctors: &'a [u8],
-    placement: &'a [u8],
-) -> Result<Option<&'static str>, NoMemory> {
-    let whole = Row {
+// A call whose text, the placement of these doctors, has two pieces.
+fn two_pieces<'a>(doctors: &'a [u8], placement: &'a [u8]) -> Row<'a> {
+    Row {
         name: "two pieces",
         doctors,
         ranks: Some(b"hospital,doctors\n"),
         puts: &[3],
         out: placement,
         ..PLACED
-    };
+    }
+}
+
+// The first wrong one of three calls whose text has two pieces.
+fn first_wrong_piece<'a>(
+    alloc: Global,
+    doctors: &'a [u8],
+    placement: &'a [u8],
+) -> Result<Option<&'static str>, NoMemory> {
+    let whole = two_pieces(doctors, placement);
     let first = Row {
         name: "the second piece fails",
         puts: &[2, 3],
@@ -496,5 +524,6 @@ fn puts_pieces(rt: HostRuntime) -> Result<(), Fail> {
     let placement = rows_of_many(alloc, "doctor,hospital\n", ",")?;
     assert_eq!(rt; placement.len(), 4216);
     assert_eq!(rt; first_wrong_piece(alloc, &doctors, &placement)?, None);
+    assert!(rt; is_torn(alloc, &two_pieces(&doctors, &placement), 4096)?);
     Ok(())
 }

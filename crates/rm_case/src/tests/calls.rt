@@ -49,6 +49,17 @@ fn is_replaced(alloc: Global, case: &Case) -> Result<bool, NoMemory> {
     Ok(places.len() == 2 && places.get(0) == None && places.get(1) == Some(0))
 }
 
+// Whether the one region has a cap of 1 and both hospitals in the order of their turns, each with one seat and no target.
+fn is_region(alloc: Global, case: &Case) -> Result<bool, NoMemory> {
+    let regions = case.regions(alloc)?;
+    if regions.len() != 1 || regions[0].cap() != 1 || regions[0].seats().len() != 2 {
+        return Ok(false);
+    }
+    let seats = regions[0].seats();
+    let (first, second) = (seats[0], seats[1]);
+    Ok(first.hospital == 0 && first.target == 0 && first.capacity == 1 && second.hospital == 1)
+}
+
 // Whether all of this holds of the folder's case.
 fn all_hold(alloc: Global) -> Result<bool, NoMemory> {
     let Ok(case) = case_of(alloc) else {
@@ -58,7 +69,8 @@ fn all_hold(alloc: Global) -> Result<bool, NoMemory> {
         is_solved(alloc, &case)?
             && are_named(&case)
             && are_offered(alloc, &case)?
-            && is_replaced(alloc, &case)?,
+            && is_replaced(alloc, &case)?
+            && is_region(alloc, &case)?,
     )
 }
 

@@ -1,19 +1,11 @@
-use Rattle.std.proofs.Common.{◌≡◌, ◌∙◌, ℕ, Option, Some, None, List, [], ap, refl, get_or, sym}
+use Rattle.std.proofs.Common.{◌≡◌, ◌∙◌, ℕ, Option, Some, None, List, refl, sym}
 use Rattle.std.specs.Prelude.{slice_get, unwrap_or}
 use Rattle.std.proofs.lemmas.Option.{get_or_from_slice_get}
-use Rattle.rm_names.specs.Names.{place_of}
-use Rattle.rm_base.specs.Text.{Text}
-use Rattle.rm_policy.specs.Policy.{PolicyData, entry_names}
+use Rattle.rm_policy.specs.Policy.{PolicyData}
 use Rattle.rm_roster.specs.Roster.{RosterData, hospitals_in}
 use Rattle.rm_case.specs.Compiled.{entry_of_prefecture, order_of_prefecture}
-use Rattle.rm_case.proofs.OrderLemmas.{entry_named}
+use Rattle.rm_case.proofs.OrderLemmas.{entry-found, entry_named}
 use Rattle.rm_case.proofs.turns.order_of.Goals as goal
-
--- the entry of a prefecture, found by its name
-entry-found : (r : RosterData) (p : PolicyData) (q : ℕ) (names : List Text) (name : Text) (o : Option ℕ) → names ≡ r.prefectures → slice_get names q ≡ Some name → o ≡ place_of (entry_names p) name → entry_of_prefecture r p q ≡ o
-entry-found r p q names name o same at found =
-    let named : get_or r.prefectures q [] ≡ name = get_or_from_slice_get r.prefectures q name [] (rw same at at) in
-    ap (λ (t : Text). place_of (entry_names p) t) named ∙ sym found
 
 without-entry : (r : RosterData) (p : PolicyData) (q : ℕ) → entry_of_prefecture r p q ≡ None → order_of_prefecture r p q ≡ hospitals_in r q
 without-entry r p q none = rw none refl
