@@ -2,6 +2,7 @@ pub mod Answering
 mod BothTexts
 pub mod Chosen
 mod Completeness
+mod ErrorTexts
 mod Offered
 pub mod OwnRows
 pub mod Pieces
