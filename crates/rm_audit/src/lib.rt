@@ -4,3 +4,6 @@
 mod placement;
 
 pub use placement::read_placement;
+
+#[cfg(test)]
+mod tests;

@@ -4,6 +4,9 @@ ghost use Rattle.std.specs.Prelude.{◌≡◌, ◌<◌, ℕ, find, length, get_o
 ghost use Rattle.rm_base.specs.Checks.{first_of};
 ghost use Rattle.rm_base.specs.Reading.{Reads, Stops};
 ghost use Rattle.rm_sets.specs.Sets.{below, has};
+ghost use Rattle.rm_market.specs.Market.{set_of_places, wishes_of};
+ghost use Rattle.rm_market.specs.Stable.{IsPlacement};
+ghost use Rattle.rm_case.specs.Case.{IsCase, market};
 ghost use Rattle.rm_roster.specs.Cells.{data_rows};
 ghost use Rattle.rm_audit.specs.Placement.{AreListedPlaces, is_listed_pair, place_checks, placed_rows_checks, placement_checks, placement_in, places_in, row_doctor, row_place};
 
@@ -19,7 +22,8 @@ use std::alloc::Global;
 
 /// The placement that a table tells: a row names a doctor, and his hospital or none, and each doctor has one row. There is one
 /// place for each doctor, in the order of `doctors.csv`: his hospital, by its row of `hospitals.csv`, counted from 0, or none;
-/// `listed` says that an audit can be made of it. `Refused` is the first refusal, of file 5. First comes the header: code 13,
+/// by `listed` each place is the hospital of a contract that its doctor lists, and by `placement` these contracts are listed
+/// ones, at most one for each doctor. `Refused` is the first refusal, of file 5. First comes the header: code 13,
 /// with `a` 0 and `b` its first wrong field, counted from 1. Then come the rows in order, where `a` is the row, counted from 1
 /// after the header: 60, an unknown doctor, with `b` 1; 63, a doctor of a former row, which is `b`; and, where the second cell
 /// isn't empty, 61, an unknown hospital, with `b` 2, and 62, a hospital that the doctor doesn't list or that doesn't rank him,
@@ -28,6 +32,7 @@ use std::alloc::Global;
 pub fn read_placement(alloc: Global, case: &Case, table: &Table) -> Result<Places, OwnFault>
     ensures reads { Reads (first_of (placement_checks case.now table.now)) (placement_in case.now table.now) result }
     ensures listed { IfOk result (λ places. AreListedPlaces case.now places) }
+    ensures placement { IfOk result (λ places. IsPlacement (wishes_of (market case.now)) (set_of_places (market case.now) places)) }
 {
     match wrong_cell(table, &["doctor", "hospital"]) {
         Some(field) => Err(ReadFault::refused(WRONG_HEADER, OWN_FILE, 0, field)),
@@ -37,6 +42,7 @@ pub fn read_placement(alloc: Global, case: &Case, table: &Table) -> Result<Place
 
 // The placement that the rows after the header tell.
 fn read_rows(alloc: Global, case: &Case, table: &Table) -> Result<Places, OwnFault>
+    ensures case { IsCase case.now }
     ensures reads { Reads (first_of (placed_rows_checks case.now (data_rows table.now))) (places_in case.now (data_rows table.now)) result }
     ensures listed { IfOk result (λ places. AreListedPlaces case.now places) }
 {
