@@ -364,7 +364,12 @@ static FAILED_ROWS: [Row<'static>; 11] = [
 ];
 
 // Calls whose output has room for so many bytes and no more.
-static TORN_ROWS: [(Row<'static>, usize); 4] = [(PLACED, 0), (PLACED, 10), (STEPS, 10), (CHOSEN, 10)];
+static TORN_ROWS: [(Row<'static>, usize); 4] = [
+    (PLACED, 0),
+    (PLACED, 10),
+    (STEPS, 10),
+    (CHOSEN, 10),
+];
 
 // The words of a row.
 fn words_of(alloc: Global, row: &Row<'_>) -> Result<Vec<String>, NoMemory> {
@@ -453,7 +458,11 @@ fn is_torn(alloc: Global, row: &Row<'_>, room: usize) -> Result<bool, NoMemory> 
     let mut err = TornSink::new(alloc, 100)?;
     let words = words_of(alloc, row)?;
     let status = run(alloc, &words, &mut shelf, &mut out, &mut err);
-    Ok(status == 5 && out.bytes() == &row.out[..room.min(row.out.len())] && err.bytes() == b"write fault\n".as_slice())
+    Ok(
+        status == 5
+            && out.bytes() == &row.out[..room.min(row.out.len())]
+            && err.bytes() == b"write fault\n".as_slice(),
+    )
 }
 
 #[test]
