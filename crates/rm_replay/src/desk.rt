@@ -34,7 +34,8 @@ pub(crate) fn play<H: Holder + Drop>(
     requires empty { H.held holder ≡ [] }
     requires wishes { AreWishes (contract_count board.now) (wishes (owners_of board.now) listed.now) }
     requires doctors { All (λ d. d < length listed.now) order.now }
-    ensures { IfOk result (λ played. IsPlayedBy (H.chosen holder) board.now (wishes (owners_of board.now) listed.now) order.now played.turns.items played.places) }
+    ensures { IfOk result (λ played.
+        IsPlayedBy (H.chosen holder) board.now (wishes (owners_of board.now) listed.now) order.now played.turns.items played.places) }
 {
     let mut desk = Desk::open(alloc, listed, board.owners(), holder)?;
     let turns = take_turns(alloc, &mut desk, order)?;

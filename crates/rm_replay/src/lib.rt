@@ -54,7 +54,8 @@ fn play_regions(
     requires doctors { All (λ d. d < length case.now.roster.doctors) order.now }
     requires regions { regions.now ≡ case_regions case.now }
     requires hospitals { All (AreBelow (length (market case.now).board.ranks)) regions.now }
-    ensures { IfOk result (λ played. IsPlayedBy (kept_in case.now) (market case.now).board (wishes_of (market case.now)) order.now played.turns.items played.places) }
+    ensures { IfOk result (λ played.
+        IsPlayedBy (kept_in case.now) (market case.now).board (wishes_of (market case.now)) order.now played.turns.items played.places) }
 {
     let board = case.board();
     let choice = Flexible::new(board, regions);

@@ -1,2 +1,4 @@
+pub mod Counts
 pub mod Open
+pub mod Report
 pub mod Texts

@@ -3,12 +3,15 @@
 
 mod certificate;
 mod check;
+mod counts;
 mod pair;
 mod placement;
+mod report;
 mod writing;
 
 pub use certificate::certificate_text;
 pub use check::check_text;
 pub use pair::pair_text;
 pub use placement::placement_text;
+pub use report::prefecture_text;
 pub use rm_base::NoMemory;

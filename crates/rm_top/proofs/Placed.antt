@@ -13,8 +13,9 @@ use Rattle.rm_kamada_kojima_laws.proofs.Results.{placement_is_kk_stable}
 use Rattle.rm_case.specs.Case.{CaseData, IsCase, market, regions}
 use Rattle.rm_case.specs.Regions.{AreRegionsOf}
 use Rattle.rm_case.specs.Solving.{IsSolved}
+use Rattle.rm_report.specs.Report.{prefecture_text}
 use Rattle.rm_report.specs.Texts.{placement_text}
-use Rattle.rm_top.specs.Answers.{IsPlacementText}
+use Rattle.rm_top.specs.Answers.{IsPlacementText, IsReportText}
 use Rattle.rm_top.specs.Headline.{NobodyGains, PlacesTheSame, procedure_after, EndsIn, IsPlaced}
 
 nobody_gains : (m : Market) (S : List ℕ) → IsMarket m → IsPlacementOf m S → NobodyGains m S
@@ -48,3 +49,6 @@ placed c S case feasible is = record {
 
 pub placed_text : (c : CaseData) (hospitals : List (Option ℕ)) (text : Text) → IsCase c → IsSolved c hospitals → text ≡ placement_text c hospitals → IsPlacementText c text
 placed_text c hospitals text case solved is = (solved.set, placed c solved.set case solved.feasible solved.placement, rw solved.places at is)
+
+pub placed_report : (c : CaseData) (hospitals : List (Option ℕ)) (text : Text) → IsCase c → IsSolved c hospitals → text ≡ prefecture_text c hospitals → IsReportText c text
+placed_report c hospitals text case solved is = (solved.set, placed c solved.set case solved.feasible solved.placement, rw solved.places at is)

@@ -1,5 +1,5 @@
 -- Wrong texts and wrong endings, and what refuses them.
-use Rattle.std.proofs.Common.{◌≡◌, ◌≢◌, ℕ, ◌+◌, List, [], ◌++◌, length, take, Option, None, Some, Result, Ok, Err, IsSome, is_some, refl, sym, ap, ◌∙◌, ⊎_elim, arith, true≢false}
+use Rattle.std.proofs.Common.{◌≡◌, ◌≢◌, ℕ, ◌+◌, ◌-◌, List, [], ◌++◌, length, take, Option, None, Some, Result, Ok, Err, IsSome, is_some, refl, sym, ap, ◌∙◌, ⊎_elim, arith, true≢false}
 use Rattle.rm_base.specs.Text.{Text, Files}
 use Rattle.rm_base.specs.declared.Refusal.{Refusal}
 use Rattle.rm_market.specs.Certificate.{certificate}
@@ -78,7 +78,7 @@ none_or_some : {text : Text} (n : ℕ) → length text ≡ n + 1 → [] ≡ text
 none_or_some n long e = let none : 0 ≡ n + 1 = ap (λ (t : Text). length t) e ∙ long in omega (arith, none)
 
 untold_words : (files : Option Files) (blame : Option (Option Text)) (command : Option Command) → ¬ IsErrorText files blame command bad_words []
-untold_words files blame command says = none_or_some 74 refl (says.usage refl)
+untold_words files blame command says = none_or_some (length usage_text - 1) refl (says.usage refl)
 
 untold_write_fault : (files : Option Files) (blame : Option (Option Text)) (command : Option Command) → ¬ IsErrorText files blame command write_failed []
 untold_write_fault files blame command says = none_or_some 11 refl (says.write_fault refl)
@@ -87,11 +87,11 @@ untold_want : (files : Option Files) (blame : Option (Option Text)) (command : O
 untold_want files blame command says = none_or_some 9 refl (says.memory refl)
 
 told_too_much : (files : Option Files) (blame : Option (Option Text)) (command : Option Command) → ¬ IsErrorText files blame command written usage_text
-told_too_much files blame command says = none_or_some 74 refl (sym (says.nothing refl))
+told_too_much files blame command says = none_or_some (length usage_text - 1) refl (sym (says.nothing refl))
 
 -- and no line is left out where the faults didn't rise
 left_out : (before after : ℕ) → ¬ HasRisen before after → ¬ Reports before after (Some []) (Some []) usage_text
-left_out before after well says = ⊎_elim (λ gained. none_or_some 74 refl gained) (λ part. well part.0) says
+left_out before after well says = ⊎_elim (λ gained. none_or_some (length usage_text - 1) refl gained) (λ part. well part.0) says
 
 -- the line of a refusal is that of the first one
 same_line : {r s : Refusal} {o : Option Refusal} → o ≡ Some r → o ≡ Some s → refusal_text r ≡ refusal_text s

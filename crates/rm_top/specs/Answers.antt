@@ -12,6 +12,7 @@ use Rattle.rm_case.specs.Case.{CaseData, market_of, market}
 use Rattle.rm_case.specs.Choices.{choices_of}
 use Rattle.rm_case.specs.Own.{doctor_in, offers_of}
 use Rattle.rm_laws.specs.WhatIf.{AreBothPlacements}
+use Rattle.rm_report.specs.Report.{prefecture_text}
 use Rattle.rm_report.specs.Texts.{placement_text, pair_text, check_text, certificate_text}
 use Rattle.rm_top.specs.Command.{Command, usage_text, doctor_word, folder_in, file_of, own_refusal, own_rows, refusal_of, word_checks}
 use Rattle.rm_top.specs.Headline.{IsPlaced}
@@ -49,6 +50,10 @@ HasAnswered status = (status ≢ read_failed) × (status ≢ no_memory)
 abbrev pub IsPlacementText : CaseData → Text → Type 0
 IsPlacementText c text = (S : List ℕ) × IsPlaced c S × (text ≡ placement_text c (places_of (market c) S))
 
+-- the text of its report by prefectures
+abbrev pub IsReportText : CaseData → Text → Type 0
+IsReportText c text = (S : List ℕ) × IsPlaced c S × (text ≡ prefecture_text c (places_of (market c) S))
+
 -- the text of the best subset of some offers, with a row for each of them
 abbrev pub IsChoiceText : CaseData → List ℕ → Text → Type 0
 IsChoiceText c offers text = (S : List ℕ) × Best (market c) offers S × (text ≡ certificate_text c (certificate (market c).board offers S))
@@ -67,6 +72,7 @@ IsDoctorsText c word list text = (d : ℕ) × (doctor_in c word ≡ Some d) × I
 abbrev pub IsCaseText : Kind → List Text → CaseData → List Row → Text → Type 0
 IsCaseText kinds.Place words c rows text = IsPlacementText c text
 IsCaseText kinds.Check words c rows text = text ≡ check_text c
+IsCaseText kinds.Report words c rows text = IsReportText c text
 IsCaseText kinds.Choose words c rows text = IsChoiceText c (offers_of c rows) text
 IsCaseText kinds.WhatIf words c rows text = IsDoctorsText c (doctor_word words) (choices_of c rows) text
 

@@ -17,13 +17,14 @@ use Rattle.rm_top.specs.declared.command.Kind.TheVariants as kinds
 use Rattle.rm_top.specs.declared.command.TheConstants.{DOCTOR_WORD, WORDS}
 
 abbrev pub usage_text : Text
-usage_text = codes "usage: rm_match place F | check F | choose F OFFERS | whatif F DOCTOR LIST\n"
+usage_text = codes "usage: rm_match place F | check F | report F | choose F OFFERS | whatif F DOCTOR LIST\n"
 
 -- what a first word asks for, with so many words in all
 abbrev pub kind_of : Text → ℕ → Option Kind
 kind_of word count =
     if (count == 2) && bytes_eq word (codes "place") then Some kinds.Place
     else if (count == 2) && bytes_eq word (codes "check") then Some kinds.Check
+    else if (count == 2) && bytes_eq word (codes "report") then Some kinds.Report
     else if (count == 3) && bytes_eq word (codes "choose") then Some kinds.Choose
     else if (count == 4) && bytes_eq word (codes "whatif") then Some kinds.WhatIf
     else None
@@ -32,6 +33,7 @@ kind_of word count =
 abbrev pub own_at : Kind → Option ℕ
 own_at kinds.Place = None
 own_at kinds.Check = None
+own_at kinds.Report = None
 own_at kinds.Choose = Some 2
 own_at kinds.WhatIf = Some 3
 
@@ -47,6 +49,7 @@ doctor_word words = word_at words 2
 abbrev pub word_checks : Kind → CaseData → List Text → List (Option Refusal)
 word_checks kinds.Place c words = []
 word_checks kinds.Check c words = []
+word_checks kinds.Report c words = []
 word_checks kinds.Choose c words = []
 word_checks kinds.WhatIf c words = check (is_none (doctor_in c (doctor_word words))) (refuse UNKNOWN_DOCTOR WORDS DOCTOR_WORD 0) ∷ []
 
@@ -54,6 +57,7 @@ word_checks kinds.WhatIf c words = check (is_none (doctor_in c (doctor_word word
 abbrev pub rows_checks : Kind → CaseData → List Row → List (Option Refusal)
 rows_checks kinds.Place c rows = []
 rows_checks kinds.Check c rows = []
+rows_checks kinds.Report c rows = []
 rows_checks kinds.Choose c rows = offer_table_checks c rows
 rows_checks kinds.WhatIf c rows = choice_table_checks c rows
 

@@ -7,7 +7,7 @@ use std::marker::Model;
 
 /// The usage line.
 pub const USAGE: &str =
-    "usage: rm_match place F | check F | choose F OFFERS | whatif F DOCTOR LIST\n";
+    "usage: rm_match place F | check F | report F | choose F OFFERS | whatif F DOCTOR LIST\n";
 
 /// The number that a refusal has in place of a file's where it speaks of a word.
 pub const WORDS: u8 = 0;
@@ -22,6 +22,8 @@ pub enum Kind {
     Place,
     /// Count what the folder holds.
     Check,
+    /// Report the placement by prefectures.
+    Report,
     /// Choose the best of the contracts in a file of offers.
     Choose,
     /// Place the doctors, once as they are and once with another list of one of them.
@@ -35,6 +37,7 @@ fn kind_of(word: &str, count: usize) -> Option<Kind>
     match count {
         2 if word == "place" => Some(Kind::Place),
         2 if word == "check" => Some(Kind::Check),
+        2 if word == "report" => Some(Kind::Report),
         3 if word == "choose" => Some(Kind::Choose),
         4 if word == "whatif" => Some(Kind::WhatIf),
         _ => None,

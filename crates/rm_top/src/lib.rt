@@ -12,6 +12,7 @@ mod choosing;
 mod command;
 mod ending;
 mod output;
+mod prefectures;
 mod replacing;
 mod telling;
 mod texts;

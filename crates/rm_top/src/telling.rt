@@ -10,6 +10,7 @@ ghost use Rattle.rm_top.specs.Telling.{AreWordsKnown, HasCaseText, HasFailedOwn,
 use crate::NoMemory;
 use crate::choosing::choose_text;
 use crate::command::{Command, DOCTOR_WORD, Kind, WORDS};
+use crate::prefectures::report_text;
 use crate::replacing::whatif_text;
 use rm_base::Refusal;
 use rm_base::codes::UNKNOWN_DOCTOR;
@@ -54,6 +55,7 @@ fn text_on(
     let made = match command.kind() {
         Kind::Place => place_text(alloc, case),
         Kind::Check => check_text(alloc, case),
+        Kind::Report => report_text(alloc, case),
         Kind::Choose => return choose_text(alloc, case, own),
         Kind::WhatIf => return whatif_text(alloc, case, command.doctor(), own),
     };

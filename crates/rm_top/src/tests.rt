@@ -122,7 +122,7 @@ const NO_COMMAND: Row<'static> = Row {
     words: &[],
     fetches: &[1],
     status: 2,
-    err: b"usage: rm_match place F | check F | choose F OFFERS | whatif F DOCTOR LIST\n",
+    err: b"usage: rm_match place F | check F | report F | choose F OFFERS | whatif F DOCTOR LIST\n",
     ..REFUSED
 };
 
@@ -144,7 +144,7 @@ const UNWRITTEN: Row<'static> = Row {
     ..PLACED
 };
 
-static WRITTEN_ROWS: [Row<'static>; 13] = [
+static WRITTEN_ROWS: [Row<'static>; 15] = [
     PLACED,
     Row {
         name: "no doctors and no ranks",
@@ -189,6 +189,18 @@ static WRITTEN_ROWS: [Row<'static>; 13] = [
             b"version = 1\nkind = \"steps\"\nties = \"listed\"\nlisted = [[\"A\", \"H2\"]]\n",
         ),
         out: b"kind steps\nties listed\nhospitals 2\ndoctors 1\ncontracts 1\nlisted 1\nnodes 2\ndepth 1\n",
+        ..PLACED
+    },
+    Row {
+        name: "a report, where the prefecture's entry has a cap and a doctor who is put out applies",
+        words: &["report", "F"],
+        out: b"prefecture,hospital,capacity,target,cap,placed,applicants,first\nP,H1,1,0,,1,2,0\nP,H2,1,0,,0,1,0\nP,,2,0,1,1,2,0\n,,2,0,,1,2,0\n",
+        ..FLEXIBLE
+    },
+    Row {
+        name: "a report without a policy",
+        words: &["report", "F"],
+        out: b"prefecture,hospital,capacity,target,cap,placed,applicants,first\nP,H1,1,0,,0,0,0\nP,H2,1,0,,1,1,1\nP,,2,0,,1,1,1\n,,2,0,,1,1,1\n",
         ..PLACED
     },
     CHOSEN,
@@ -296,10 +308,15 @@ static REFUSED_ROWS: [Row<'static>; 17] = [
     NO_COMMAND,
 ];
 
-static FAILED_ROWS: [Row<'static>; 11] = [
+static FAILED_ROWS: [Row<'static>; 12] = [
     Row {
         name: "no file of offers",
         words: &["choose", "F"],
+        ..NO_COMMAND
+    },
+    Row {
+        name: "a word too many",
+        words: &["report", "F", "O"],
         ..NO_COMMAND
     },
     Row {
@@ -364,12 +381,7 @@ static FAILED_ROWS: [Row<'static>; 11] = [
 ];
 
 // Calls whose output has room for so many bytes and no more.
-static TORN_ROWS: [(Row<'static>, usize); 4] = [
-    (PLACED, 0),
-    (PLACED, 10),
-    (STEPS, 10),
-    (CHOSEN, 10),
-];
+static TORN_ROWS: [(Row<'static>, usize); 5] = [(PLACED, 0), (PLACED, 10), (STEPS, 10), (CHOSEN, 10), (REPLACED, 10)];
 
 // The words of a row.
 fn words_of(alloc: Global, row: &Row<'_>) -> Result<Vec<String>, NoMemory> {
