@@ -470,7 +470,11 @@ fn is_torn(alloc: Global, row: &Row<'_>, room: usize) -> Result<bool, NoMemory> 
     let mut err = TornSink::new(alloc, 100)?;
     let words = words_of(alloc, row)?;
     let status = run(alloc, &words, &mut shelf, &mut out, &mut err);
-    Ok(status == 5 && out.bytes() == &row.out[..room.min(row.out.len())] && err.bytes() == b"write fault\n".as_slice())
+    Ok(
+        status == 5
+            && out.bytes() == &row.out[..room.min(row.out.len())]
+            && err.bytes() == b"write fault\n".as_slice(),
+    )
 }
 
 #[test]
