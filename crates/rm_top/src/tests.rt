@@ -381,7 +381,13 @@ static FAILED_ROWS: [Row<'static>; 12] = [
 ];
 
 // Calls whose output has room for so many bytes and no more.
-static TORN_ROWS: [(Row<'static>, usize); 5] = [(PLACED, 0), (PLACED, 10), (STEPS, 10), (CHOSEN, 10), (REPLACED, 10)];
+static TORN_ROWS: [(Row<'static>, usize); 5] = [
+    (PLACED, 0),
+    (PLACED, 10),
+    (STEPS, 10),
+    (CHOSEN, 10),
+    (REPLACED, 10),
+];
 
 // The words of a row.
 fn words_of(alloc: Global, row: &Row<'_>) -> Result<Vec<String>, NoMemory> {

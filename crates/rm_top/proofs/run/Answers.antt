@@ -9,7 +9,8 @@ returns-clause-complete g c =
     rw c.status.ensures (complete _ (command_of (map string_bytes c.args.words.now)) c.perform-ending.result c.perform-ending.ensures.ends)
 
 pub returns-clause-told : goal.returns-clause-told
-returns-clause-told g c =
-    (c.text.result.now,
-    rw (c.status.ensures, c.text.ensures) (told _ (command_of (map string_bytes c.args.words.now)) c.perform-ending.result c.perform-ending.ensures.ends),
-    c.report.ensures)
+returns-clause-told g c = (
+  c.text.result.now,
+  rw (c.status.ensures, c.text.ensures) (told _ (command_of (map string_bytes c.args.words.now)) c.perform-ending.result c.perform-ending.ensures.ends),
+  c.report.ensures,
+)
