@@ -62,7 +62,9 @@ placed_checks c before row = place_checks c (length before + 1) (row_of_doctor c
 
 -- the least doctor whom no row names; doctors count from 1
 abbrev pub missing_doctor : CaseData → List Row → Option Refusal
-missing_doctor c rows = option_map (λ d. refuse DOCTOR_MISSING OWN_FILE (d + 1) 0) (find (λ d. not (has d (doctors_in c rows))) (below (length c.roster.doctors)))
+missing_doctor c rows =
+    option_map (λ d. refuse DOCTOR_MISSING OWN_FILE (d + 1) 0)
+    (find (λ d. not (has d (doctors_in c rows))) (below (length c.roster.doctors)))
 
 abbrev pub placement_header : List Text
 placement_header = codes "doctor" ∷ codes "hospital" ∷ []

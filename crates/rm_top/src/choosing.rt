@@ -70,7 +70,8 @@ fn offers_text(alloc: Global, case: &Case, offers: &Offers) -> Result<Vec<u8>, N
 
 /// The text of the best subset of the offers that a table tells.
 pub fn choose_text(alloc: Global, case: &Case, table: &Table) -> Result<Vec<u8>, OwnFault>
-    ensures text { IfOk result (λ text. (first_of (offer_table_checks case.now table.now) ≡ None) × IsChoiceText case.now (offers_of case.now table.now) text.items) }
+    ensures text { IfOk result (λ text. (first_of (offer_table_checks case.now table.now) ≡ None)
+        × IsChoiceText case.now (offers_of case.now table.now) text.items) }
     ensures stops { IfErr result (Stops (first_of (offer_table_checks case.now table.now))) }
 {
     let offers = match Offers::read(alloc, case, table) {
