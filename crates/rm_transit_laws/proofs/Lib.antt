@@ -6,4 +6,5 @@ pub mod Travel
 pub mod Markets
 pub mod Moves
 pub mod Outcomes
+pub mod Truth
 mod Examples

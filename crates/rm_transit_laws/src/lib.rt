@@ -4,7 +4,7 @@
 
 ghost use Rattle.rm_matching_laws.specs.Results.{OfLawfulChoices};
 ghost use Rattle.rm_market_laws.specs.Results.{OfBestChoices};
-ghost use Rattle.rm_transit_laws.specs.Results.{ArrivedIsTrue, NothingIsNoChange, TravelsClose, TravelsWell, TravelsWellIn};
+ghost use Rattle.rm_transit_laws.specs.Results.{ArrivedIsTrue, MarksAreTrue, NothingIsNoChange, TravelsClose, TravelsWell, TravelsWellIn};
 
 pub use rm_market::Outcome;
 
@@ -68,4 +68,10 @@ pub fn offers_come_to_rest()
 pub fn what_events_do()
     ensures nothing { OfLawfulChoices NothingIsNoChange }
     ensures arrived { OfLawfulChoices ArrivedIsTrue }
+{}
+
+/// What a doctor's mark says is so: his offer that travels is the one that he sent last, and a contract of his is held exactly where his
+/// mark says which. So a program that keeps marks needs no search through what is held.
+pub fn marks_are_true()
+    ensures { OfLawfulChoices MarksAreTrue }
 {}

@@ -1,0 +1,4 @@
+pub mod Doctors
+pub mod Events
+pub mod Rest
+pub mod OneSeat
