@@ -1,0 +1,11 @@
+//! Journals of a case's offers: what is to be said of one that anybody wrote.
+#![tactic(auto)]
+
+mod checking;
+
+pub use checking::verify;
+pub use rm_base::NoMemory;
+pub use rm_journal_laws::{Check, Entry, Outcome};
+
+#[cfg(test)]
+mod tests;

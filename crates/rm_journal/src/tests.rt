@@ -1,0 +1,4 @@
+// Checks of journals of a folder in memory.
+
+mod checks;
+mod folders;
