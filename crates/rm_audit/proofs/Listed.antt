@@ -36,6 +36,11 @@ of_place b n (p ∷ places) x i = by p (contract_at b n p) refl (of_place b (n +
         (λ more. later (Some h) (rest more))
         (IsIn-cases x y (filter_map (λ e. contract_at b e.0 e.1) (enumerate_from (n + 1) places)) j)
 
+-- the same, where the doctor is told
+pub placed_at : (b : Board) (n : ℕ) (places : List (Option ℕ)) (x : ℕ) → IsIn x (filter_map (λ e. contract_at b e.0 e.1) (enumerate_from n places)) → (d : ℕ) × (h : ℕ) × (get_or places d None ≡ Some h) × (contract_of b (n + d) h ≡ Some x)
+unfolding IsOfPlace
+placed_at b n places x i = of_place b n places x i
+
 module _ (c : CaseData) (places : List (Option ℕ)) (ok : IsCase c) (l : AreListedPlaces c places) where
   -- what is told of a contract of the set
   record IsPlaced (x : ℕ) : Type 0 where

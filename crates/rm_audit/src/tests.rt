@@ -1,6 +1,6 @@
-// What the reading of a placement answers.
+// What the reading of a placement answers, and what is found of placements.
 
-use crate::read_placement;
+use crate::{Finding, audit, read_placement};
 use rm_base::{NoMemory, ReadFault};
 use rm_case::{Case, LoadFault};
 use rm_outside::memory::SteadyShelf;
@@ -75,5 +75,104 @@ fn all_hold(alloc: Global) -> bool {
 #[test]
 fn reads_placements(rt: HostRuntime) -> Result<(), Fail> {
     assert!(rt; all_hold(rt.alloc()));
+    Ok(())
+}
+
+// A folder, a file of a placement, and the finding on it.
+#[derive(Clone, Copy)]
+struct Row {
+    hospitals: &'static [u8],
+    doctors: &'static [u8],
+    ranks: &'static [u8],
+    policy: &'static [u8],
+    placement: &'static [u8],
+    finding: Finding,
+}
+
+// In the first two rows a prefecture has one seat, which its order gives to H1 first, and the contracts are 0 of A and H1, 1 of B and
+// H1, and 2 of A and H2. In the third its cap is 0, and it is node 1. In the last contract 0 is of B, and the second seat costs 1.
+const ROWS: [Row; 4] = [
+    Row {
+        hospitals: b"hospital,prefecture,capacity,target\nH1,P,1,0\nH2,P,1,0\n",
+        doctors: b"doctor,choices\nA,H2,H1\nB,H1\n",
+        ranks: b"hospital,doctors\nH1,A,B\nH2,A\n",
+        policy: b"version = 1\nkind = \"flexible\"\n[[prefecture]]\nname = \"P\"\ncap = 1\norder = [\"H1\", \"H2\"]\n",
+        placement: b"doctor,hospital\nA,H2\nB,\n",
+        finding: Finding::Blocks(1),
+    },
+    Row {
+        hospitals: b"hospital,prefecture,capacity,target\nH1,P,1,0\nH2,P,1,0\n",
+        doctors: b"doctor,choices\nA,H2,H1\nB,H1\n",
+        ranks: b"hospital,doctors\nH1,A,B\nH2,A\n",
+        policy: b"version = 1\nkind = \"flexible\"\n[[prefecture]]\nname = \"P\"\ncap = 1\norder = [\"H1\", \"H2\"]\n",
+        placement: b"doctor,hospital\nA,H1\nB,\n",
+        finding: Finding::Stable,
+    },
+    Row {
+        hospitals: b"hospital,prefecture,capacity,target\nH1,P,1,0\n",
+        doctors: b"doctor,choices\nA,H1\n",
+        ranks: b"hospital,doctors\nH1,A\n",
+        policy: b"version = 1\nkind = \"steps\"\n[[prefecture]]\nname = \"P\"\ncap = 0\n",
+        placement: b"doctor,hospital\nA,H1\n",
+        finding: Finding::OverCap(1),
+    },
+    Row {
+        hospitals: b"hospital,prefecture,capacity,target\nH1,P,2,0\n",
+        doctors: b"doctor,choices\nA,H1\nB,H1\n",
+        ranks: b"hospital,doctors\nH1,B,A\n",
+        policy: b"version = 1\nkind = \"steps\"\n[[hospital]]\nname = \"H1\"\nsteps = [[0, 1], [-1, 1]]\n",
+        placement: b"doctor,hospital\nA,H1\nB,H1\n",
+        finding: Finding::Unwanted(0),
+    },
+];
+
+// A shelf with the files of a row.
+fn shelf_of_row(alloc: Global, row: &Row) -> Result<SteadyShelf, NoMemory> {
+    let mut shelf = SteadyShelf::new(alloc);
+    shelf.add("F/hospitals.csv", row.hospitals)?;
+    shelf.add("F/doctors.csv", row.doctors)?;
+    shelf.add("F/ranks.csv", row.ranks)?;
+    shelf.add("F/policy.toml", row.policy)?;
+    Ok(shelf)
+}
+
+// The case of a row.
+fn case_of_row(alloc: Global, row: &Row) -> Result<Case, LoadFault> {
+    let Ok(mut shelf) = shelf_of_row(alloc, row) else {
+        return Err(LoadFault::NoMemory);
+    };
+    match Case::load(alloc, &mut shelf, "F") {
+        Ok(case) => Ok(case),
+        Err(fault) => Err(fault),
+    }
+}
+
+// What is found of a file of a placement.
+fn found(alloc: Global, case: &Case, placement: &[u8]) -> Option<Finding> {
+    let Ok(table) = Table::read(alloc, placement) else {
+        return None;
+    };
+    let Ok(places) = read_placement(alloc, case, &table) else {
+        return None;
+    };
+    match audit(alloc, case, &places) {
+        Ok(finding) => Some(finding),
+        Err(_) => None,
+    }
+}
+
+// Whether the finding of a row is found.
+fn is_found(alloc: Global, row: &Row) -> bool {
+    match case_of_row(alloc, row) {
+        Ok(case) => found(alloc, &case, row.placement) == Some(row.finding),
+        Err(_) => false,
+    }
+}
+
+#[test]
+fn finds_what_is_to_be_said(rt: HostRuntime) -> Result<(), Fail> {
+    for row in &ROWS {
+        assert!(rt; is_found(rt.alloc(), row));
+    }
     Ok(())
 }
