@@ -78,8 +78,8 @@ fn perform<S: Shelf, O: Sink>(alloc: Global, words: &[String], shelf: &mut S, ou
 }
 
 /// Does all that the program does with these words, which stand after its name, and answers its status: 0 where the text was
-/// written, 2 where the words spell no command, 3 where the folder or the command's own file is refused, 4 where the shelf failed,
-/// 5 where `out` failed, and 6 for want of memory. What `err` gains says which.
+/// written, 2 where the words spell no command, 3 where the folder, a word or the command's own file is refused, 4 where the shelf
+/// failed, 5 where `out` failed, and 6 for want of memory. What `err` gains says which.
 pub fn run<S: Shelf, O: Sink, E: Sink>(
     alloc: Global,
     words: &[String],

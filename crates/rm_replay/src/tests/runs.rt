@@ -22,7 +22,7 @@ struct Row {
     places: &'static [Option<u32>],
 }
 
-const ROWS: [Row; 4] = [
+const ROWS: [Row; 7] = [
     Row {
         name: "A first",
         files: &ONE_SEAT,
@@ -103,6 +103,77 @@ const ROWS: [Row; 4] = [
                 outcome: Outcome::Refused,
             },
             Turn::Idle,
+        ],
+        places: &[Some(0), None, None, Some(1), Some(1), None],
+    },
+    Row {
+        name: "no order, with a target",
+        files: &TARGET_OF_TWO,
+        order: &[],
+        turns: &[],
+        places: &[Some(0), None, None, Some(1), Some(1), None],
+    },
+    Row {
+        name: "ascending, with a target",
+        files: &TARGET_OF_TWO,
+        order: &[0, 1, 2, 3, 4, 5],
+        turns: &[
+            Turn::Moved {
+                x: 0,
+                outcome: Outcome::Kept,
+            },
+            Turn::Moved {
+                x: 1,
+                outcome: Outcome::Kept,
+            },
+            Turn::Moved {
+                x: 2,
+                outcome: Outcome::Kept,
+            },
+            Turn::Moved {
+                x: 3,
+                outcome: Outcome::Swapped(2),
+            },
+            Turn::Moved {
+                x: 4,
+                outcome: Outcome::Swapped(1),
+            },
+            Turn::Moved {
+                x: 5,
+                outcome: Outcome::Refused,
+            },
+        ],
+        places: &[Some(0), None, None, Some(1), Some(1), None],
+    },
+    Row {
+        name: "descending, with a target",
+        files: &TARGET_OF_TWO,
+        order: &[5, 4, 3, 2, 1, 0],
+        turns: &[
+            Turn::Moved {
+                x: 5,
+                outcome: Outcome::Kept,
+            },
+            Turn::Moved {
+                x: 4,
+                outcome: Outcome::Kept,
+            },
+            Turn::Moved {
+                x: 3,
+                outcome: Outcome::Kept,
+            },
+            Turn::Moved {
+                x: 2,
+                outcome: Outcome::Swapped(5),
+            },
+            Turn::Moved {
+                x: 1,
+                outcome: Outcome::Swapped(2),
+            },
+            Turn::Moved {
+                x: 0,
+                outcome: Outcome::Swapped(1),
+            },
         ],
         places: &[Some(0), None, None, Some(1), Some(1), None],
     },
