@@ -1,12 +1,23 @@
-"""Small drawn folders, for checks that search by the plain definitions."""
+"""The folders of examples/, and small drawn ones, for checks that compare the program with plain definitions."""
 
 import csv
 import json
 import os
 
-KINDS = ("none", "flexible", "steps")
-TIES = ("by-rank", "by-hospital", "listed")
+POLICIES = [("none", None)] + [(kind, ties) for kind in ("flexible", "steps") for ties in ("by-rank", "by-hospital", "listed")]
 MOST_CONTRACTS = 12
+
+
+def folders(room, draw, count):
+    """The folders of examples/, as a room sees them, and drawn ones in the room, so many of each kind of policy and ties: each with a word for its
+    kind."""
+    for name in sorted(os.listdir(os.path.join(room.at, "examples"))):
+        yield "examples/" + name, "example"
+    for number in range(count):
+        for kind, ties in POLICIES:
+            folder = "%s%d" % (kind, number)
+            draw_folder(draw, kind, ties, os.path.join(room.at, folder))
+            yield folder, "%s, %s" % (kind, ties) if ties else "no policy"
 
 
 def draw_folder(draw, kind, ties, path):
@@ -14,7 +25,7 @@ def draw_folder(draw, kind, ties, path):
     doctors. The kind is that of the policy, or none; names have commas and quotes, so that they are quoted where they are written."""
     hospitals = {"H%d" % k: draw.choice(("North, or so", 'the "South"')) for k in range(1, draw.randint(2, 4) + 1)}
     doctors = ["D%d" % k if k > 1 else "Doe, Jo" for k in range(1, draw.randint(3, 5) + 1)]
-    seats = {h: draw.randint(0, 3) if draw.random() < 0.9 else 4 for h in hospitals}
+    seats = {h: draw.choice((0, 1, 1, 2, 2, 3)) for h in hospitals}
     targets = {h: draw.randint(0, seats[h]) for h in hospitals}
     pairs = draw.sample([(d, h) for d in doctors for h in hospitals], min(MOST_CONTRACTS, len(doctors) * len(hospitals)))
     ranks = {h: [d for d, k in pairs if k == h] for h in hospitals}
@@ -24,7 +35,9 @@ def draw_folder(draw, kind, ties, path):
     write_table(path, "doctors.csv", ["doctor", "choices"], [[d, *choices] for d, choices in lists.items()])
     write_table(path, "ranks.csv", ["hospital", "doctors"], [[h, *ranked] for h, ranked in ranks.items()])
     if kind != "none":
-        top = {"version": 1, "kind": kind, "ties": ties, **({"listed": listed_order(draw, ranks)} if ties == "listed" else {})}
+        top = {"version": 1, "kind": kind, "ties": ties}
+        if ties == "listed":
+            top["listed"] = listed_order(draw, ranks)
         entries = flexible_entries(draw, hospitals, seats, targets) if kind == "flexible" else steps_entries(draw, hospitals, seats)
         with open(os.path.join(path, "policy.toml"), "w", encoding="utf-8") as file:
             file.write(lines_of(top) + "".join("\n[[%s]]\n%s" % (table, lines_of(entry)) for table, entry in entries))
@@ -53,7 +66,7 @@ def flexible_entries(draw, hospitals, seats, targets):
     for prefecture in sorted(set(hospitals.values())):
         inside = [h for h in hospitals if hospitals[h] == prefecture]
         wanted = sum(targets[h] for h in inside)
-        entry = {"name": prefecture, "cap": draw.randint(wanted, max(wanted, sum(seats[h] for h in inside)))}
+        entry = {"name": prefecture, "cap": draw.randint(max(1, wanted), max(1, sum(seats[h] for h in inside)))}
         if draw.random() < 0.6:
             entry["order"] = draw.sample(inside, len(inside))
         if draw.random() < 0.85:
@@ -73,8 +86,8 @@ def steps_entries(draw, hospitals, seats):
     if draw.random() < 0.6:
         groups.append({"name": "all", "prefectures": prefectures})
     for group in groups:
-        group.update({"cap": draw.randint(0, 4)} if draw.random() < 0.3 else {"steps": falling(draw, draw.randint(1, 6))})
-    own = [("hospital", {"name": h, "steps": falling(draw, draw.randint(0, seats[h]))}) for h in hospitals if draw.random() < 0.5]
+        group.update({"cap": draw.randint(1, 4)} if draw.random() < 0.3 else {"steps": falling(draw, draw.randint(2, 6))})
+    own = [("hospital", {"name": h, "steps": falling(draw, draw.randint((seats[h] + 1) // 2, seats[h]))}) for h in hospitals if draw.random() < 0.5]
     return others + [("group", group) for group in groups] + own
 
 
