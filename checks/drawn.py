@@ -9,15 +9,13 @@ MOST_CONTRACTS = 12
 
 
 def folders(room, draw, count):
-    """The folders of examples/, as a room sees them, and drawn ones in the room, so many of each kind of policy and ties: each with a word for its
-    kind."""
+    """The folders of examples/, as a room sees them, and so many drawn ones of each kind of policy and ties: each with what it is called."""
     for name in sorted(os.listdir(os.path.join(room.at, "examples"))):
         yield "examples/" + name, "example"
-    for number in range(count):
-        for kind, ties in POLICIES:
-            folder = "%s%d" % (kind, number)
-            draw_folder(draw, kind, ties, os.path.join(room.at, folder))
-            yield folder, "%s, %s" % (kind, ties) if ties else "no policy"
+    for number, (kind, ties) in enumerate(POLICIES * count):
+        folder = "drawn%d" % number
+        draw_folder(draw, kind, ties, os.path.join(room.at, folder))
+        yield folder, "%s, %s" % (kind, ties) if ties else "no policy"
 
 
 def draw_folder(draw, kind, ties, path):
