@@ -1,22 +1,22 @@
 -- The span of each node in the walk.
-use Rattle.std.proofs.Common.{◌≡◌, ◌∙◌, ℕ, zero, suc, ◌+◌, ◌-◌, ◌<◌, ◌≤◌, List, [], ◌∷◌, ◌++◌, Bool, true, false, cond, ◌&&◌, ◌||◌, ◌⊎◌, ltb, eqb, filter, get_or, length, map, take, drop, reverse, replicate, All, refl, sym, ap, subst, inl, inr, ⊎_elim, arith, ltb-true, eqb-true}
+use Rattle.std.proofs.Common.{◌≡◌, ◌∙◌, ℕ, zero, suc, ◌+◌, ◌-◌, ◌<◌, ◌≤◌, List, [], ◌∷◌, ◌++◌, Bool, true, false, cond, ◌⊎◌, ltb, eqb, get_or, length, map, take, drop, reverse, replicate, All, refl, sym, ap, subst, inl, inr, ⊎_elim, arith, ltb-true, eqb-true}
 use Rattle.std.specs.List.{position_or_len}
 use Rattle.std.proofs.Math.Seq.{drop-cons, take-append_seam}
-use Rattle.std.proofs.lemmas.Bool.{cases_eq, cases_lt, cases_Bool, eq-eqb, lt-ltb, and_parts, and_from, or_cases, or_left, or_right}
+use Rattle.std.proofs.lemmas.Bool.{cases_eq, cases_lt, cases_Bool, eq-eqb, lt-ltb, or_cases, or_left, or_right}
 use Rattle.std.proofs.lemmas.List.{length-append, length-map, length-reverse, length-drop, get_or-map, map-append, reverse-append, take-append-drop, drop-drop, get_or-replicate, length-replicate}
 use Rattle.rm_sets.specs.Sets.{has, IsIn, below}
-use Rattle.rm_sets.proofs.Sets.{IsIn-here, IsIn-cases, not_both}
+use Rattle.rm_sets.proofs.Sets.{IsIn-cases, not_both}
 use Rattle.rm_sets.proofs.Members.{IsIn-get_or, place_from_IsIn, All-from_members}
 use Rattle.rm_sets.proofs.Places.{placed}
 use Rattle.rm_market.specs.Tree.{set_of, least, is_inside, chain, comes_before, in_order, put, tree_sets}
 use Rattle.rm_laminar.specs.Chains.{IsOrdered, IsLaminar, IsOrderedChain, AreChains, AreHospitalGroups}
 use Rattle.rm_laminar.specs.Walk.{around, node_trail, node_walk, is_within, node_of, ArePasts, IsWalk}
 use Rattle.rm_laminar.proofs.Order.{Asymmetric, has-in_order}
-use Rattle.rm_laminar.proofs.Laminar.{Holds, inside-asymmetric, inside-within, chain-is, chain-holds, holds-chain}
+use Rattle.rm_laminar.proofs.Laminar.{inside-asymmetric, inside-within, chain-is, chain-holds, holds-chain}
 use Rattle.rm_laminar.proofs.Parents.{outside-next}
-use Rattle.rm_laminar.proofs.Trees.{length-below, get-below, tree-length, set-hospital}
+use Rattle.rm_laminar.proofs.Trees.{length-below, get-below, tree-length}
 use Rattle.rm_laminar.proofs.Firsts.{least-there}
-use Rattle.rm_laminar.proofs.WalkLemmas.{AreFilled, by_trail, lex-cases, lex-asymmetric, has-numbers, trail-tells, trails-ordered, chain-first, tree-filled}
+use Rattle.rm_laminar.proofs.WalkLemmas.{AreFilled, by_trail, lex-cases, has-numbers, trail-tells, trails-ordered, chain-first, tree-filled}
 
 -- ---- lists in order
 
@@ -124,10 +124,11 @@ both-within sets l m n b = ⊎_elim
 -- a node within n has n's trail, and more
 within-trail : (sets : List (List ℕ)) → IsLaminar sets → AreFilled sets → (m n : ℕ) → m < length sets → n < length sets → is_within sets m n ≡ true → (r : List ℕ) × (node_trail sets m ≡ node_trail sets n ++ r)
 within-trail sets l f m n lm ln w =
-    let b = both-nodes sets l f m n lm ln w in
-    (reverse (map (least sets) (take b.more (drop b.inner (chain sets b.leaf)))),
-    ap (node_trail sets) (sym b.here) ∙ longer-trail sets l b.leaf b.inner b.more (chain sets b.leaf) (chain-is sets l b.leaf) b.within
-    ∙ ap (λ (k : ℕ). node_trail sets k ++ reverse (map (least sets) (take b.more (drop b.inner (chain sets b.leaf))))) b.there)
+    let b = both-nodes sets l f m n lm ln w in (
+      reverse (map (least sets) (take b.more (drop b.inner (chain sets b.leaf)))),
+      ap (node_trail sets) (sym b.here) ∙ longer-trail sets l b.leaf b.inner b.more (chain sets b.leaf) (chain-is sets l b.leaf) b.within
+          ∙ ap (λ (k : ℕ). node_trail sets k ++ reverse (map (least sets) (take b.more (drop b.inner (chain sets b.leaf))))) b.there,
+    )
 
 -- a node whose trail begins with n's is within n
 trail-within : (sets : List (List ℕ)) → IsLaminar sets → AreFilled sets → (m n : ℕ) (r : List ℕ) → m < length sets → n < length sets → node_trail sets m ≡ node_trail sets n ++ r → is_within sets m n ≡ true
@@ -144,7 +145,7 @@ trail-within sets l f m n r lm ln e =
     let split = ap (node_trail sets) (sym p.2) ∙ longer-trail sets l h p.0 d xs c lt in
     let size : length (node_trail sets (get_or xs (p.0 + d) 0)) ≡ length (node_trail sets n) = (let n = long (p.0 + d) lt in omega (arith, n, whole)) in
     let same : node_trail sets (get_or xs (p.0 + d) 0) ≡ node_trail sets n = sym (take-append_seam (node_trail sets (get_or xs (p.0 + d) 0)) (reverse (map (least sets) (take d (drop p.0 xs)))))
-        ∙ ap (take (length (node_trail sets (get_or xs (p.0 + d) 0)))) (sym split ∙ e) ∙ ap (λ (j : ℕ). take j (node_trail sets n ++ r)) size ∙ take-append_seam (node_trail sets n) r
+    ∙ ap (take (length (node_trail sets (get_or xs (p.0 + d) 0)))) (sym split ∙ e) ∙ ap (λ (j : ℕ). take j (node_trail sets n ++ r)) size ∙ take-append_seam (node_trail sets n) r
     in
     let node = (chain-holds sets h (get_or xs (p.0 + d) 0) xs c (IsIn-get_or xs (p.0 + d) 0 lt)).node in
     let is : get_or xs (p.0 + d) 0 ≡ n = sym (trail-tells sets l f (get_or xs (p.0 + d) 0) node) ∙ ap (node_of (chain sets)) same ∙ trail-tells sets l f n ln in
@@ -283,7 +284,7 @@ before-end hospitals groups chains pasts gs c e n p lt lp w =
     let own : least sets m < length sets = (let small = least_of.1 in let count = tree-length hospitals groups in omega (arith, small, count)) in
     let q = place-of sets (least sets m) own in
     let le : p ≤ place sets (least sets m) = first-within sets c.laminar (tree-filled hospitals groups chains gs c) m (place sets (least sets m)) p q.0 lp refl
-        (rw q.1 (hospital-within hospitals groups c.laminar (least sets m) m least_of.1 node least_of.0))
+    (rw q.1 (hospital-within hospitals groups c.laminar (least sets m) m least_of.1 node least_of.0))
     in
     let less = e.high n (place sets (least sets m)) (rw length-walk lt) q.0 (rw q.1 least_of.1) (rw q.1 (within-set sets m n (least sets m) w least_of.0)) in
     omega (arith, le, less)

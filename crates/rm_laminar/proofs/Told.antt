@@ -1,15 +1,13 @@
 -- Chains tell the groups that they were built of.
-use Rattle.std.proofs.Common.{◌≡◌, ◌∙◌, ℕ, zero, suc, ◌+◌, ◌-◌, ◌<◌, ◌≤◌, List, [], ◌∷◌, ◌++◌, Bool, true, false, eqb, get_or, length, map, refl, sym, ap, ⊎_elim, arith, length-append, fold, max, position, Some, None, Vec, All, eqb-true}
+use Rattle.std.proofs.Common.{◌≡◌, ◌∙◌, ℕ, zero, suc, ◌+◌, ◌-◌, ◌<◌, ◌≤◌, List, [], ◌∷◌, ◌++◌, Bool, get_or, length, map, refl, sym, ap, ⊎_elim, arith, length-append, fold, max, Vec, All}
 use Rattle.std.specs.Prelude.{slice_index}
-use Rattle.std.proofs.lemmas.Bool.{cases_lt, lt-ltb, eq-eqb}
+use Rattle.std.proofs.lemmas.Bool.{cases_lt, lt-ltb}
 use Rattle.std.proofs.lemmas.List.{length-map, get_or-map, get_or_append_left, get_or-append-add, get_or-reverse}
-use Rattle.rm_sets.specs.Sets.{has, IsIn, IsSetBelow, all_below}
-use Rattle.rm_sets.proofs.Members.{all_below_has, place_from_IsIn}
+use Rattle.rm_sets.specs.Sets.{has, IsSetBelow, all_below}
+use Rattle.rm_sets.proofs.Members.{all_below_has}
 use Rattle.std.specs.declared.alloc.Global.{Global}
-use Rattle.std.specs.List.{slice_get, position_or_len}
-use Rattle.std.proofs.lemmas.List.Sums.{fails_before_first}
+use Rattle.std.specs.List.{slice_get}
 use Rattle.std.proofs.lemmas.List.{map-append}
-use Rattle.std.proofs.lemmas.List.Quantifiers.{position-Some}
 use Rattle.std.proofs.lemmas.List.Elements.{All-map, All-get_or}
 use Rattle.rm_market.specs.Tree.{below, set_of, least, sets_of_tree, tree_sets, chain, parent, depth, TreeOf}
 use Rattle.rm_laminar.specs.Chains.{chain_lists, AreChains, AreHospitalGroups}

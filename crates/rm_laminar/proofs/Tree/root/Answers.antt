@@ -1,4 +1,4 @@
-use Rattle.std.proofs.Common.{◌∙◌, arith}
+use Rattle.std.proofs.Common.{arith}
 use Rattle.rm_market.specs.Tree.{sets_of_tree}
 use Rattle.rm_laminar.proofs.Told.{around-some, root-around}
 use Rattle.rm_laminar.proofs.Tree.root.Goals as goal
