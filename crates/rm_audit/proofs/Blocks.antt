@@ -1,12 +1,13 @@
 -- The walk of a contract that isn't placed: it stops where a swap raises the worth, or wins its tie, or at the first full node.
-use Rattle.std.proofs.Common.{◌≡◌, ◌∙◌, ◌⊎◌, ℕ, ◌+◌, ◌<◌, ◌≤◌, List, Bool, true, false, cond, length, get_or, Option, Some, None, option_map, ℤ, pos, ◌+ℤ◌, ◌-ℤ◌, ◌≤ℤ◌, ◌<ℤ◌, refl, sym, ap, subst, inl, inr, ⊎_elim, arith}
+use Rattle.std.proofs.Common.{not, ◌≡◌, ◌≢◌, ◌∙◌, ◌⊎◌, ℕ, ◌+◌, ◌*◌, ◌<◌, ◌≤◌, List, Bool, true, false, cond, length, get_or, Option, Some, None, option_map, ℤ, pos, ◌+ℤ◌, ◌-ℤ◌, ◌≤ℤ◌, ◌<ℤ◌, refl, sym, ap, subst, inl, inr, ⊎_elim, arith}
 use Rattle.std.proofs.lemmas.Int.{ints}
+use Rattle.std.proofs.lemmas.Bool.{cases_Bool}
 use Rattle.rm_sets.specs.Sets.{has, IsIn, IsSetBelow, with_one}
 use Rattle.rm_sets.proofs.Sets.{not_both}
 use Rattle.rm_sets.proofs.Members.{IsIn-with_one_new, IsSetBelow-with_one}
 use Rattle.rm_market.specs.Board.{Board, contract_count, leaf_of, node_at, sets_of, worth, is_feasible}
 use Rattle.rm_market.specs.Best.{IsBest, values_of, is_better, swapped}
-use Rattle.rm_market.specs.Tree.{chain}
+use Rattle.rm_market.specs.Tree.{chain, is_inside}
 use Rattle.rm_laminar.specs.Chains.{IsOrderedChain}
 use Rattle.rm_board.specs.TieKeys.{tie_key}
 use Rattle.rm_board.proofs.TieKeys.{key_order}
@@ -22,14 +23,14 @@ use Rattle.rm_exchange.specs.declared.removal.Removal.{Removal as AnyRemoval}
 use Rattle.rm_exchange.specs.declared.prospects.Swap.{Swap}
 use Rattle.rm_exchange.specs.declared.prospects.Prospects.{Prospects}
 use Rattle.rm_exchange.specs.Entrants.{HasHospitals, IsBestAt}
-use Rattle.rm_exchange.specs.Prospects.{IsBestRated, IsBestRatedOf, AreProspects, IsRated, exceeds, greater_swap}
+use Rattle.rm_exchange.specs.Prospects.{swap_change, IsBestRated, IsBestRatedOf, AreProspects, IsRated, exceeds, greater_swap}
 use Rattle.rm_exchange.proofs.Mending.{InRange}
 use Rattle.rm_exchange.proofs.CheapestSwap.{chain_node, inside_prior}
 use Rattle.rm_exchange.proofs.Chain.{is_chain}
 use Rattle.rm_exchange.proofs.Walked.{IsWalked, walk_start, walked_swap, walk_more, walk_full, walk_end}
 use Rattle.rm_exchange.proofs.Deciding.{IsOffer, kept_best, refused_best}
-use Rattle.rm_audit.specs.Placed.{bare}
-use Rattle.rm_audit.specs.Blocking.{IsAnswer, IsUnmoved, gains_by}
+use Rattle.rm_audit.specs.Placed.{bare, IsCheapestOf}
+use Rattle.rm_audit.specs.Blocking.{IsAnswer, IsUnmoved, IsWeighed, gains_by}
 use Rattle.std.specs.Prelude.{IfSome, int_le}
 use Rattle.rm_audit.specs.declared.placed.Removal.{Removal}
 

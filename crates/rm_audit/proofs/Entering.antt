@@ -1,12 +1,12 @@
 -- Contracts enter at their nodes, one after another, and at each node the cheapest removal is kept.
-use Rattle.std.proofs.Common.{◌≡◌, ◌∙◌, ◌⊎◌, ℕ, suc, ◌+◌, ◌-◌, ◌*◌, ◌<◌, ◌≤◌, List, [], ◌∷◌, ◌++◌, Bool, true, false, cond, length, get_or, set, take, Option, Some, None, option_map, ℤ, pos, ◌+ℤ◌, ◌-ℤ◌, ◌≤ℤ◌, refl, sym, ap, subst, inl, inr, ⊎_elim, arith, replicate, add-one, drop, drop-cons, ne_eqb, ◌||◌}
+use Rattle.std.proofs.Common.{◌≡◌, ◌∙◌, ◌⊎◌, ℕ, zero, suc, ◌+◌, ◌-◌, ◌*◌, ◌<◌, ◌≤◌, List, [], ◌∷◌, ◌++◌, Bool, true, false, cond, length, get_or, set, take, eqb, Option, Some, None, option_map, ℤ, pos, ◌+ℤ◌, ◌-ℤ◌, ◌≤ℤ◌, ◌<ℤ◌, refl, sym, ap, subst, inl, inr, ⊎_elim, arith, eqb-true, eq-eqb, replicate, add-one, length-set, drop, drop-cons, ne_eqb, ◌||◌}
 use Rattle.std.proofs.lemmas.Int.{ints}
-use Rattle.std.proofs.lemmas.Bool.{cases_eq}
+use Rattle.std.proofs.lemmas.Bool.{cases_Bool, cases_eq, cases_lt}
 use Rattle.std.proofs.lemmas.List.{get_or-set_same, get_or-set_other, get_or-replicate, length-replicate, drop_all, take_more}
 use Rattle.std.proofs.lemmas.Option.{slice_get-get_or}
 use Rattle.rm_sets.specs.Sets.{has, IsIn}
-use Rattle.rm_sets.proofs.Sets.{not_both, IsIn-here, IsIn-cases}
-use Rattle.rm_sets.proofs.Members.{not_in_nil, not_in_from, IsIn-append_left, IsIn-append_right, IsIn-append_cases}
+use Rattle.rm_sets.proofs.Sets.{not_both, has-append, IsIn-here, IsIn-later, IsIn-cases}
+use Rattle.rm_sets.proofs.Members.{not_in_nil, not_in_from, IsIn-append_left, IsIn-append_right, IsIn-append_cases, IsIn-get_or}
 use Rattle.rm_market.specs.Board.{Board, contract_count, leaf_of, node_at, sets_of}
 use Rattle.rm_market.specs.Tree.{chain, parent, is_inside}
 use Rattle.rm_laminar.specs.Chains.{IsOrderedChain}
@@ -18,12 +18,12 @@ use Rattle.rm_valuation.proofs.Counted.{count_of}
 use Rattle.rm_valuation_laws.specs.Changes.{test_at, last_step}
 use Rattle.rm_exchange.specs.declared.removal.Removal.{Removal as AnyRemoval}
 use Rattle.rm_exchange.specs.Entrants.{HasHospitals, inner_cost, inner_size, ComesFirstOf, IsCheapestHeld, IsLeastOf}
-use Rattle.rm_exchange.proofs.Chain.{is_chain, chain_home}
+use Rattle.rm_exchange.proofs.Chain.{is_chain, node_of, chain_home}
 use Rattle.rm_exchange.proofs.CheapestSwap.{chain_node}
-use Rattle.rm_exchange.proofs.Homes.{at_home, nothing_inside}
+use Rattle.rm_exchange.proofs.Homes.{at_home, leaf_test, nothing_inside}
 use Rattle.rm_exchange.proofs.Inner.{inner_none, upto_own}
-use Rattle.rm_exchange.proofs.Mending.{comes_first_trans, first_node, off_path}
-use Rattle.rm_audit.specs.Placed.{bare, is_no_dearer, cheaper_of, IsCheapestOf, AreCheapest}
+use Rattle.rm_exchange.proofs.Mending.{InRange, comes_first_trans, first_node, off_path}
+use Rattle.rm_audit.specs.Placed.{IsWalkable, bare, is_no_dearer, cheaper_of, IsCheapestOf, AreCheapest}
 use Rattle.rm_audit.specs.declared.placed.Removal.{Removal}
 
 -- ---- one contract more

@@ -1,9 +1,9 @@
 -- Each finding says what holds.
-use Rattle.std.proofs.Common.{◌≡◌, ◌∙◌, ℕ, List, Option, Some, None, sym, subst, ⊎_elim, arith}
+use Rattle.std.proofs.Common.{◌≡◌, ◌∙◌, ◌⊎◌, ◌≤◌, ◌<◌, ℕ, List, Option, Some, None, refl, sym, ap, subst, ⊎_elim, arith}
 use Rattle.std.specs.Prelude.{◌↔◌, Result, Ok, Err, IfOk}
-use Rattle.rm_sets.specs.Sets.{IsSetBelow, without}
+use Rattle.rm_sets.specs.Sets.{IsSetBelow, has, without}
 use Rattle.rm_sets.proofs.Sets.{not_both}
-use Rattle.rm_market.specs.Board.{Board, contract_count}
+use Rattle.rm_market.specs.Board.{Board, contract_count, is_feasible}
 use Rattle.rm_market.specs.Best.{values_of, is_better}
 use Rattle.rm_market.specs.Market.{Market, IsMarket, IsStableIn, Best, wishes_of}
 use Rattle.rm_market.specs.Stable.{IsPlacement}

@@ -1,6 +1,6 @@
 -- The contracts at the places of doctors, marked one after another.
-use Rattle.std.proofs.Common.{◌≡◌, ◌∙◌, ◌+◌, ◌<◌, ◌≤◌, ℕ, zero, suc, List, [], ◌∷◌, Bool, true, false, length, get_or, set, replicate, Option, Some, None, refl, sym, ap, subst, ⊎_elim, arith, length-set}
-use Rattle.std.proofs.lemmas.Bool.{cases_lt, cases_eq}
+use Rattle.std.proofs.Common.{◌≡◌, ◌∙◌, ◌+◌, ◌<◌, ◌≤◌, ◌⊎◌, ℕ, zero, suc, List, [], ◌∷◌, Bool, true, false, length, get_or, set, replicate, Option, Some, None, refl, sym, ap, subst, ⊎_elim, arith, length-set, add-one}
+use Rattle.std.proofs.lemmas.Bool.{cases_lt, cases_eq, cases_Bool}
 use Rattle.std.proofs.lemmas.List.{get_or_past, get_or-set_same, get_or-set_other, get_or-replicate, length-replicate}
 use Rattle.std.specs.List.{filter_map, cons_option, enumerate_from}
 use Rattle.rm_sets.specs.Sets.{has, IsIn, IsSetBelow, all_below}

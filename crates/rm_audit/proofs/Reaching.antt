@@ -1,17 +1,17 @@
 -- The contracts that stand before a doctor's place in his list are those that he wants.
-use Rattle.std.proofs.Common.{◌≡◌, ◌∙◌, ◌⊎◌, ℕ, ◌+◌, ◌<◌, ◌≤◌, List, [], true, false, length, get_or, refl, sym, ap, subst, inl, inr, ⊎_elim, arith}
+use Rattle.std.proofs.Common.{◌≡◌, ◌∙◌, ◌⊎◌, ℕ, ◌+◌, ◌<◌, ◌≤◌, List, [], Bool, true, false, length, get_or, refl, sym, ap, subst, inl, inr, ⊎_elim, arith}
 use Rattle.std.specs.Prelude.{IsTrue}
 use Rattle.std.proofs.lemmas.Bool.{cases_lt}
 use Rattle.rm_sets.specs.Sets.{has, IsIn}
 use Rattle.rm_sets.proofs.Sets.{not_both}
 use Rattle.rm_sets.proofs.Members.{not_in_from, IsIn-get_or}
-use Rattle.rm_market.specs.Board.{Board}
+use Rattle.rm_market.specs.Board.{Board, contract_count}
 use Rattle.rm_market.specs.Laws.{AreWishes}
 use Rattle.rm_market.specs.Stable.{Wishes, IsPlacement, wants, owner, list_of}
-use Rattle.rm_matching_laws.proofs.Places.{place, place-lt, place_read, place-get_or, wants_from, wants_earlier}
+use Rattle.rm_matching_laws.proofs.Places.{Wants, place, place-lt, place_read, place-get_or, wants_from, wants_earlier}
 use Rattle.rm_matching_laws.proofs.Stable.{wants_test, from_wants}
-use Rattle.rm_audit.specs.Blocking.{IsUnmoved, IsLeastOfThem, IsFirstBlocking, IsReachedBy, IsReachedIn}
-use Rattle.std.proofs.Common.{All, Some, None}
+use Rattle.rm_audit.specs.Blocking.{IsUnmoved, IsLeastOfThem, IsFirstBlocking, IsReachedAt, IsReachedBy, IsReachedIn}
+use Rattle.std.proofs.Common.{All, Option, Some, None}
 use Rattle.std.proofs.lemmas.List.Elements.{All-get_or}
 
 -- ---- wanted contracts

@@ -1,8 +1,9 @@
 -- The board of a case can be walked, and its contracts are as the walks ask.
-use Rattle.std.proofs.Common.{◌≡◌, ◌∙◌, ◌<◌, ℕ, List, [], All, length, get_or, Option, Some, None, sym, subst, ⊎_elim, arith}
+use Rattle.std.proofs.Common.{◌≡◌, ◌∙◌, ◌<◌, ℕ, List, [], All, length, get_or, Option, Some, None, sym, ap, subst, ⊎_elim, arith}
 use Rattle.std.proofs.lemmas.Bool.{cases_lt}
 use Rattle.std.proofs.lemmas.List.{get_or-map, get_or_past}
 use Rattle.std.proofs.lemmas.List.Elements.{All-from_get_or}
+use Rattle.rm_sets.specs.Sets.{IsIn}
 use Rattle.rm_sets.proofs.Members.{All-from_members}
 use Rattle.rm_market.specs.Board.{Board, IsBoard, contract_count, contract_of, leaf_of, pairs_of, sets_of}
 use Rattle.rm_market.specs.Market.{wishes_of}

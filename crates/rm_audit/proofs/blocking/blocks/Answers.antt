@@ -1,9 +1,10 @@
-use Rattle.std.proofs.Common.{◌∙◌, ◌+ℤ◌, get_or, true, false, None, sym, arith, FitsSigned, w64}
+use Rattle.std.proofs.Common.{◌≡◌, ◌∙◌, ◌+◌, ◌+ℤ◌, get_or, true, false, None, sym, ap, subst, arith, FitsSigned, w64}
 use mir.Val.{to_z}
 use Rattle.std.proofs.lemmas.Int.{ints, to_z-of_z}
 use Rattle.rm_board.specs.TieKeys.{tie_key}
 use Rattle.rm_exchange.proofs.Chain.{node_of}
 use Rattle.rm_exchange.proofs.Walked.{few_nodes, full_at, room_at, step_is}
+use Rattle.rm_audit.specs.Blocking.{gains_by}
 use Rattle.rm_audit.proofs.Blocks.{walk_begins, walks_on, ends_full, ends_gaining, ends, in_range, told}
 use Rattle.rm_audit.proofs.blocking.blocks.Goals as goal
 

@@ -1,4 +1,4 @@
-use Rattle.std.proofs.Common.{◌<◌, All, length, sym, subst, arith}
+use Rattle.std.proofs.Common.{◌≡◌, ◌<◌, All, length, get_or, sym, subst, arith}
 use Rattle.rm_audit.specs.Blocking.{IsLeastOfThem, IsReachedBy}
 use Rattle.rm_audit.proofs.Reaching.{next_list, none_found, some_found}
 use Rattle.rm_audit.proofs.blocking.first_blocking.Goals as goal

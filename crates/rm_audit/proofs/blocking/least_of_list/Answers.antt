@@ -1,4 +1,4 @@
-use Rattle.std.proofs.Common.{◌≡◌, ◌∙◌, ◌+◌, ◌<◌, ℕ, get_or, false, sym, arith}
+use Rattle.std.proofs.Common.{◌≡◌, ◌∙◌, ◌+◌, ◌<◌, ◌≤◌, ℕ, get_or, false, sym, arith}
 use Rattle.std.proofs.lemmas.List.Elements.{All-get_or}
 use Rattle.rm_sets.specs.Sets.{has}
 use Rattle.rm_market.specs.Board.{contract_count}

@@ -1,4 +1,4 @@
-use Rattle.std.proofs.Common.{◌∙◌, ◌<◌, ℕ, All, length, sym, subst}
+use Rattle.std.proofs.Common.{◌≡◌, ◌∙◌, ◌<◌, ℕ, All, Some, None, length, sym, subst}
 use Rattle.rm_market.specs.Board.{contract_count, leaf_of}
 use Rattle.rm_market.specs.Market.{wishes_of}
 use Rattle.rm_case.specs.Case.{market}

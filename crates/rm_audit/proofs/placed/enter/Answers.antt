@@ -1,4 +1,4 @@
-use Rattle.std.proofs.Common.{◌∙◌, ◌+◌, refl, Some, None, set, get_or, sym, subst, arith, FitsSigned, w64, ◌+ℤ◌, length-set}
+use Rattle.std.proofs.Common.{◌≡◌, ◌∙◌, ◌+◌, refl, Some, None, set, get_or, sym, ap, subst, arith, FitsSigned, w64, ◌+ℤ◌, length-set}
 use mir.Val.{to_z}
 use Rattle.std.proofs.lemmas.Int.{ints, to_z-of_z}
 use Rattle.rm_exchange.proofs.Chain.{node_of}

@@ -1,4 +1,5 @@
 use Rattle.std.proofs.Common.{◌≡◌, ◌*◌, ℕ, List, length, pos, ◌-ℤ◌, ◌≤ℤ◌}
+use Rattle.rm_sets.specs.Sets.{IsIn}
 use Rattle.rm_valuation.specs.Counts.{AreCounts}
 use Rattle.rm_audit.specs.Placed.{AreCheapest}
 use Rattle.rm_audit.proofs.Entering.{IsEntered, IsLostSoFar}

@@ -1,4 +1,4 @@
-use Rattle.std.proofs.Common.{take, sym, subst}
+use Rattle.std.proofs.Common.{[], take, get_or, sym, ap, subst}
 use Rattle.rm_sets.proofs.Members.{IsIn-get_or}
 use Rattle.rm_audit.specs.Placed.{AreCheapest}
 use Rattle.rm_audit.proofs.Entering.{none_entered, next_taken}
