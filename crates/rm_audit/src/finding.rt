@@ -28,10 +28,14 @@ use std::alloc::Global;
 /// `Unwanted(z)` comes exactly where the placed contracts aren't the best subset of themselves, with the least z without which
 /// they are better. Else `Blocks(x)` comes exactly where some contract blocks, with the least such x: its doctor prefers it to
 /// his place, and with x the placed contracts aren't the best subset. Else `Stable`, which comes exactly where the set of the
-/// places is stable in the case's market; with a flexible policy a feasible set is stable exactly where it has the count form, which
-/// looks at no worths: each contract that a doctor prefers to his place is passed over at a hospital that ranks all whom it holds
-/// above him, and that has no seat left or whose next turn is later than those of all seats held in its full region. Nodes and contracts are told by number, from 0. `NoMemory` comes only where memory
-/// for a mark of each contract, for the placed contracts, or for two entries of each node is wanting.
+/// places is stable in the case's market. Nodes and contracts are told by number, from 0.
+///
+/// With a flexible policy `Stable` comes of places that keep every cap exactly where they have the count form, which looks at no
+/// worths: each contract that a doctor prefers to his place is passed over, at a hospital that ranks all whom it holds above him,
+/// and that has no seat left, or whose region is full and has its next turn later than those of all seats that it holds.
+///
+/// `NoMemory` comes only where memory for a mark of each contract, for the placed contracts, or for two entries of each node is
+/// wanting.
 ///
 /// Each placed contract and each contract that a doctor prefers to his place is looked at once, at the cost of the length of its
 /// chain of nodes.
