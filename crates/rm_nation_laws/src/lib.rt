@@ -1,0 +1,11 @@
+//! The files of a generated nation are accepted. The functions have no code: each carries a theorem for the crates that compute.
+#![tactic(auto)]
+
+ghost use Rattle.rm_nation_laws.specs.Document.{IsPrinted, IsReadBack, IsShort, OfCaps};
+
+/// The text of a nation's policy is the one that `toml` prints of a table with its entries, and it is read back as that table.
+pub fn policies_are_read_back()
+    ensures printed { OfCaps IsPrinted }
+    ensures read { OfCaps IsReadBack }
+    ensures short { OfCaps IsShort }
+{}
