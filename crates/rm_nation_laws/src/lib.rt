@@ -2,10 +2,16 @@
 #![tactic(auto)]
 
 ghost use Rattle.rm_nation_laws.specs.Document.{IsPrinted, IsReadBack, IsShort, OfCaps};
+ghost use Rattle.rm_nation_laws.specs.Policy.{PolicyPasses};
 
 /// The text of a nation's policy is the one that `toml` prints of a table with its entries, and it is read back as that table.
 pub fn policies_are_read_back()
     ensures printed { OfCaps IsPrinted }
     ensures read { OfCaps IsReadBack }
     ensures short { OfCaps IsShort }
+{}
+
+/// A nation's policy passes its checks, whatever roster it is for that has the 47 prefectures and whose targets fit under the caps.
+pub fn policies_pass()
+    ensures { PolicyPasses }
 {}
