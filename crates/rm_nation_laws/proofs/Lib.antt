@@ -1,3 +1,4 @@
 mod Printed
 mod Below
 mod Policy
+mod Hospitals

@@ -3,6 +3,7 @@
 
 ghost use Rattle.rm_nation_laws.specs.Document.{IsPrinted, IsReadBack, IsShort, OfCaps};
 ghost use Rattle.rm_nation_laws.specs.Policy.{PolicyPasses};
+ghost use Rattle.rm_nation_laws.specs.Seats.{HospitalsPass, OfSeats};
 
 /// The text of a nation's policy is the one that `toml` prints of a table with its entries, and it is read back as that table.
 pub fn policies_are_read_back()
@@ -14,4 +15,9 @@ pub fn policies_are_read_back()
 /// A nation's policy passes its checks, whatever roster it is for that has the 47 prefectures and whose targets fit under the caps.
 pub fn policies_pass()
     ensures { PolicyPasses }
+{}
+
+/// The file of a nation's hospitals is read back as its rows, and they pass their checks.
+pub fn hospitals_pass()
+    ensures { OfSeats HospitalsPass }
 {}
