@@ -61,7 +61,7 @@ module _ (capacities targets : List ℕ) (seats : AreSeats capacities targets) w
   capacity_is : (h : ℕ) → IsNumber (decimal (get_or capacities h 0)) (get_or capacities h 0)
   capacity_is h = decimal_number (get_or capacities h 0) (omega (arith, seats.small h))
 
-  target_is : (h : ℕ) → IsNumber (decimal (get_or targets h 0)) (get_or targets h 0)
+  pub target_is : (h : ℕ) → IsNumber (decimal (get_or targets h 0)) (get_or targets h 0)
   target_is h = decimal_number (get_or targets h 0) (omega (arith, seats.small h, seats.within h))
 
   names_are : (n : ℕ) → map name_in (map row (below n)) ≡ names_up_to (codes "H") 5 n

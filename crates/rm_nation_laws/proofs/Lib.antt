@@ -2,3 +2,6 @@ mod Printed
 mod Below
 mod Policy
 mod Hospitals
+mod Roster
+mod Groups
+mod Drawn

@@ -50,7 +50,7 @@ module _ (capacities targets : List ℕ) where
     top_passes : first_of (top_checks document) ≡ None
     top_passes = rw (data_back (map entry qs), shapes qs) refl
 
-    entries_are : prefecture_entries document ≡ map entry qs
+    pub entries_are : prefecture_entries document ≡ map entry qs
     entries_are = rw (data_back (map entry qs), shapes qs) refl
 
   names_are : (n : ℕ) → map name_of_entry (entries_data capacities targets n) ≡ names_up_to (codes "P") 2 n

@@ -6,7 +6,7 @@ use Rattle.rm_base.specs.declared.codes.TheConstants.{MOST_BYTES}
 use Rattle.rm_table.specs.Rows.{Row, bad_text, rows_of}
 use Rattle.rm_roster.specs.Hospitals.{hospital_table_checks}
 use Rattle.rm_drill.specs.Files.{hospital_rows, hospitals_text}
-use Rattle.rm_drill.specs.Hospitals.{prefecture_count}
+use Rattle.rm_drill.specs.Hospitals.{capacities, hospital_count, prefecture_count, targets}
 
 -- the seats of hospitals: of 47 to 10,000 of them, at most ten each, with a target that is no more
 pub record AreSeats (capacities targets : List ℕ) : Type 0 where
@@ -29,3 +29,7 @@ pub record HospitalsPass (capacities targets : List ℕ) : Type 0 where
 
 abbrev pub OfSeats : (List ℕ → List ℕ → Type 0) → Type 0
 OfSeats Holds = (capacities targets : List ℕ) → AreSeats capacities targets → Holds capacities targets
+
+-- the seats that are drawn from a seed for n doctors are such seats
+abbrev pub DrawsSeats : Type 0
+DrawsSeats = (n seed : ℕ) → AreSeats (capacities seed (hospital_count n)) (targets seed (hospital_count n))
