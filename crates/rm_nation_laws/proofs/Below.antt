@@ -1,5 +1,5 @@
 -- Lists made of the numbers below n: checks that each item passes, and names.
-use Rattle.std.proofs.Common.{◌≡◌, ◌∙◌, ◌<◌, ◌≤◌, ◌+◌, ◌*◌, ℕ, Bool, true, All, zero, suc, List, [], ◌∷◌, ◌++◌, map, length, Option, None, refl, sym, ap, subst, arith, add-one}
+use Rattle.std.proofs.Common.{◌≡◌, ◌∙◌, ◌<◌, ◌≤◌, ◌+◌, ◌*◌, ℕ, Bool, true, All, zero, suc, List, [], ◌∷◌, ◌++◌, map, Option, None, refl, sym, ap, subst, arith, add-one}
 use Rattle.std.specs.List.{list_all, range_with_len, sum_by}
 use Rattle.std.proofs.lemmas.Bool.{and_from}
 use Rattle.std.proofs.lemmas.List.Elements.{All-nil, All-push}

@@ -1,5 +1,5 @@
 -- The prefectures of a nation make a tree: each has a hospital, and no two have one in common.
-use Rattle.std.proofs.Common.{◌≡◌, ◌∙◌, ◌<◌, ◌≤◌, ◌+◌, ◌%◌, ◌==◌, ◌++◌, nat_le, ℕ, Bool, zero, suc, true, false, cond, ◌*◌, List, [], ◌∷◌, map, length, count_by, position, codes, Some, None, refl, sym, ap, subst, arith}
+use Rattle.std.proofs.Common.{◌≡◌, ◌∙◌, ◌<◌, ◌≤◌, ◌+◌, ◌==◌, ◌++◌, nat_le, ℕ, Bool, zero, suc, false, cond, ◌*◌, List, [], ◌∷◌, map, length, count_by, position, codes, Some, None, refl, sym, ap, subst, arith}
 use Rattle.std.specs.List.{list_any, slice_index, sum_by}
 use Rattle.std.proofs.lemmas.Bool.{eqb-true, eq-eqb}
 use Rattle.std.proofs.lemmas.Bool.Decides.{nat_tests}
@@ -7,7 +7,7 @@ use Rattle.std.proofs.lemmas.List.{append-nil}
 use Rattle.std.proofs.lemmas.List.Sums.{sum_by_push}
 use Rattle.std.proofs.Math.Nat.{mod-eq_of_lt}
 use Rattle.toml.specs.Data.{Data, table}
-use Rattle.rm_sets.specs.Sets.{IsIn, all_below, below, common, has}
+use Rattle.rm_sets.specs.Sets.{IsIn, below, common, has}
 use Rattle.rm_sets.proofs.Sets.{IsIn-here, below-all_below}
 use Rattle.rm_sets.proofs.Members.{IsIn-all_below, IsIn-from_common, not_in_from}
 use Rattle.rm_sets.proofs.Search.{none_any}

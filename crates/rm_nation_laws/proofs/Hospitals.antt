@@ -1,8 +1,6 @@
 -- The hospitals' file of a nation is accepted.
-use Rattle.std.proofs.Common.{◌≡◌, ◌∙◌, ◌<◌, ◌≤◌, ◌+◌, ◌*◌, ◌^◌, ◌%◌, ◌==◌, ◌||◌, nat_lt, not, ℕ, Bool, zero, suc, true, false, All, List, [], ◌∷◌, ◌++◌, map, length, get_or, codes, decimal, Some, None, refl, sym, ap, subst, arith, length-append}
+use Rattle.std.proofs.Common.{◌≡◌, ◌∙◌, ◌<◌, ◌≤◌, ◌+◌, ◌*◌, ◌^◌, ◌==◌, ◌||◌, nat_lt, ℕ, Bool, true, false, All, List, [], ◌∷◌, map, length, get_or, codes, decimal, None, refl, arith, length-append}
 use Rattle.std.specs.List.{list_all, sum_by}
-use Rattle.std.specs.Char.{is_ascii_alphanumeric}
-use Rattle.std.proofs.lemmas.Bool.{and_from}
 use Rattle.std.proofs.lemmas.Bool.Decides.{nat_tests}
 use Rattle.std.proofs.lemmas.Fmt.{length-decimal-le}
 use Rattle.std.proofs.lemmas.List.Elements.{All-cons, All-nil}
@@ -10,7 +8,7 @@ use Rattle.std.proofs.lemmas.List.FromFn.{length-map-range_with_len}
 use Rattle.std.proofs.lemmas.List.Sums.{sum_by-cons}
 use Rattle.std.proofs.lemmas.Nat.{mod_below}
 use Rattle.rm_sets.specs.Sets.{below}
-use Rattle.rm_base.specs.Checks.{checks_of, first_of}
+use Rattle.rm_base.specs.Checks.{first_of}
 use Rattle.rm_base.specs.Text.{Text, is_name}
 use Rattle.rm_base.specs.declared.codes.TheConstants.{GREATEST_CAPACITY, MOST_BYTES, MOST_HOSPITALS, MOST_SEATS}
 use Rattle.rm_table.specs.Rows.{Row}
@@ -18,7 +16,7 @@ use Rattle.rm_names.specs.Names.{place_of}
 use Rattle.rm_roster.specs.Cells.{is_number, name_in, wrong_cell}
 use Rattle.rm_roster.specs.Hospitals.{capacity_in, hospital_checks_after, hospital_header, hospital_table_checks, is_target}
 use Rattle.rm_drill_laws.specs.Numbered.{in_digits, names_up_to, numbered}
-use Rattle.rm_drill_laws.specs.Plain.{is_plain_cell, is_plain_row}
+use Rattle.rm_drill_laws.specs.Plain.{is_plain_row}
 use Rattle.rm_drill_laws.specs.Results.{IsNumber}
 use Rattle.rm_drill_laws.proofs.Bytes.{may_be_name}
 use Rattle.rm_drill_laws.proofs.Lines.{takes_at_most}

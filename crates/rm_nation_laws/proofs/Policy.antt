@@ -1,9 +1,8 @@
 -- A nation's policy passes its checks.
-use Rattle.std.proofs.Common.{◌≡◌, ◌∙◌, ◌<◌, ◌≤◌, ◌+◌, ◌^◌, nat_lt, nat_le, ℕ, true, false, List, [], ◌∷◌, ◌++◌, map, length, codes, Some, None, refl, sym, ap, subst, arith}
+use Rattle.std.proofs.Common.{◌≡◌, ◌∙◌, ◌<◌, ◌+◌, nat_lt, nat_le, ℕ, true, false, List, [], ◌∷◌, map, length, codes, Some, None, refl, sym, ap, subst, arith}
 use Rattle.std.specs.List.{list_all}
 use Rattle.std.proofs.lemmas.Bool.{le-leb}
 use Rattle.std.proofs.lemmas.Bool.Decides.{nat_tests}
-use Rattle.std.proofs.lemmas.List.{length-map}
 use Rattle.std.proofs.lemmas.List.FromFn.{length-map-range_with_len}
 use Rattle.toml.specs.Data.{Data, table}
 use Rattle.toml.specs.View.{items_of}
@@ -22,11 +21,10 @@ use Rattle.rm_policy.specs.Values.{data_in, document_of, has_shape}
 use Rattle.rm_policy.specs.declared.Kind.TheVariants as kinds
 use Rattle.rm_policy.specs.declared.values.Shape.TheVariants as shape
 use Rattle.rm_drill_laws.specs.Numbered.{names_up_to, numbered}
-use Rattle.rm_drill_laws.specs.Results.{ArePlaced}
 use Rattle.rm_drill_laws.proofs.Names.{are_placed}
 use Rattle.rm_drill.specs.Files.{cap, policy_text, prefecture_name}
 use Rattle.rm_drill.specs.Hospitals.{prefecture_count}
-use Rattle.rm_nation_laws.specs.Document.{entries_data, entry_data, nation_members, policy_members}
+use Rattle.rm_nation_laws.specs.Document.{entries_data, entry_data, policy_members}
 use Rattle.rm_nation_laws.specs.Policy.{SuitsNation}
 use Rattle.rm_nation_laws.proofs.Below.{below-pass, map-map, names-below}
 use Rattle.rm_nation_laws.proofs.Printed.{read_back}

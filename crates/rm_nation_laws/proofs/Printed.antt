@@ -1,5 +1,5 @@
 -- A nation's policy, as `toml` prints it, and read back.
-use Rattle.std.proofs.Common.{◌≡◌, nat_lt, ◌∙◌, ◌+◌, ◌*◌, ◌≤◌, ◌<◌, ◌^◌, ◌==◌, ◌&&◌, ◌||◌, ℕ, Bool, true, false, List, [], ◌∷◌, ◌++◌, map, flat_map, drop, length, decimal, codes, pos, Some, None, cond, refl, sym, ap, subst, arith, length-append, IsUtf8, IsAscii, FitsSigned}
+use Rattle.std.proofs.Common.{◌≡◌, nat_lt, ◌∙◌, ◌+◌, ◌*◌, ◌≤◌, ◌==◌, ℕ, Bool, true, false, List, [], ◌∷◌, ◌++◌, map, flat_map, drop, length, decimal, codes, pos, refl, sym, ap, subst, arith, length-append, IsAscii, FitsSigned}
 use Rattle.std.specs.Int.{w64}
 use Rattle.std.specs.List.{list_all, list_any}
 use Rattle.std.specs.Char.{is_ascii_alphanumeric}
@@ -10,10 +10,9 @@ use Rattle.std.proofs.lemmas.List.{append_assoc, append-nil}
 use Rattle.std.proofs.lemmas.List.Folds.{list_all-append}
 use Rattle.std.proofs.lemmas.Str.{IsUtf8-from_ascii}
 use Rattle.std.proofs.lemmas.Str.Ascii.{IsAscii-cons, IsAscii-nil}
-use Rattle.toml_parser.specs.Lexical.{line_feed, quote, apostrophe, backslash}
-use Rattle.toml_writer.specs.Text.{encoding_of, escaped, has, is_control, key_text, needs_escape, quotes_after, string_text}
-use Rattle.toml.specs.Data.{Data, string, integer, table, members_depth, members_have_valid_dates, members_are_sorted, items_depth, items_have_valid_dates, items_are_sorted}
-use Rattle.toml.specs.Parse.{parse_document}
+use Rattle.toml_parser.specs.Lexical.{line_feed, quote, backslash}
+use Rattle.toml_writer.specs.Text.{encoding_of, escaped, is_control, key_text, needs_escape, quotes_after, string_text}
+use Rattle.toml.specs.Data.{Data, string, integer, items_depth, items_have_valid_dates, items_are_sorted}
 use Rattle.toml.specs.Tables.{Expression, key_value}
 use Rattle.toml.specs.Text.{IsDocumentText, IsLinesText, are_tables, elements, expressions}
 use Rattle.toml.specs.View.{items_of}

@@ -1,8 +1,8 @@
 -- The roster of a nation suits its policy.
-use Rattle.std.proofs.Common.{◌≡◌, ◌∙◌, ◌<◌, ◌≤◌, ◌+◌, ◌-◌, ◌*◌, ◌/◌, ◌^◌, ◌%◌, ◌==◌, ◌++◌, ℕ, Bool, zero, suc, true, false, cond, if◌then◌else◌, List, [], ◌∷◌, map, filter, fold, min, length, get_or, codes, Some, None, inl, inr, refl, sym, ap, subst, arith}
+use Rattle.std.proofs.Common.{◌≡◌, ◌∙◌, ◌<◌, ◌≤◌, ◌*◌, ◌%◌, ◌==◌, ◌++◌, ℕ, Bool, zero, suc, if◌then◌else◌, List, [], ◌∷◌, map, filter, min, length, get_or, codes, Some, None, inl, inr, refl, sym, ap, arith}
 use Rattle.std.specs.List.{slice_index, sum_by}
 use Rattle.std.proofs.lemmas.Bool.{cases_Bool, cases_lt}
-use Rattle.std.proofs.lemmas.List.{append-nil, get_or-map, length-map}
+use Rattle.std.proofs.lemmas.List.{get_or-map, length-map}
 use Rattle.std.proofs.lemmas.List.Elements.{filter-append}
 use Rattle.std.proofs.lemmas.List.Sums.{fold-append, sum_by-append}
 use Rattle.std.proofs.lemmas.Nat.{mod_below}
@@ -12,14 +12,14 @@ use Rattle.rm_sets.proofs.Once.{get_or-below, length-below}
 use Rattle.rm_base.specs.Text.{Text}
 use Rattle.rm_names.specs.Names.{place_of}
 use Rattle.rm_table.specs.Rows.{Row}
-use Rattle.rm_roster.specs.Hospitals.{each_once, hospitals_of, number_in, prefecture_in, target_in, with_text}
+use Rattle.rm_roster.specs.Hospitals.{each_once, number_in, prefecture_in, target_in, with_text}
 use Rattle.rm_roster.specs.Cells.{name_in}
-use Rattle.rm_roster.specs.Roster.{RosterData, hospitals_in, roster_of}
+use Rattle.rm_roster.specs.Roster.{RosterData, roster_of}
 use Rattle.rm_policy.specs.Prefectures.{targets_of}
 use Rattle.rm_drill_laws.specs.Numbered.{names_up_to}
 use Rattle.rm_drill_laws.proofs.Names.{are_placed}
-use Rattle.rm_drill.specs.Files.{cap, hospital_row, hospital_rows, prefecture_name, sum_in, whole_sum}
-use Rattle.rm_drill.specs.Hospitals.{prefecture_count, prefecture_of}
+use Rattle.rm_drill.specs.Files.{hospital_row, hospital_rows, prefecture_name, whole_sum}
+use Rattle.rm_drill.specs.Hospitals.{prefecture_of}
 use Rattle.rm_nation_laws.specs.Document.{AreCaps}
 use Rattle.rm_nation_laws.specs.Policy.{SuitsNation}
 use Rattle.rm_nation_laws.specs.Seats.{AreSeats}
