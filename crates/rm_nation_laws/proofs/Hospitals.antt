@@ -83,8 +83,21 @@ module _ (capacities targets : List ℕ) (seats : AreSeats capacities targets) w
       let small : nat_lt GREATEST_CAPACITY c ≡ false = grind (arith, nat_tests, seats.small h) in
       let target_small : nat_lt GREATEST_CAPACITY t ≡ false = grind (arith, nat_tests, seats.small h, seats.within h) in
       let fits : nat_lt c t ≡ false = grind (arith, nat_tests, seats.within h) in
-      rw (names_are h, hospital_is_name h few, new, prefecture_is_name (prefecture_of h) (mod_below h 47 (omega arith)), (capacity_is h).is, (capacity_is h).value, target,
-        (target_is h).value, limit, all, small, target_small, fits) refl
+      rw (
+        names_are h,
+        hospital_is_name h few,
+        new,
+        prefecture_is_name (prefecture_of h) (mod_below h 47 (omega arith)),
+        (capacity_is h).is,
+        (capacity_is h).value,
+        target,
+        (target_is h).value,
+        limit,
+        all,
+        small,
+        target_small,
+        fits,
+      ) refl
 
   abbrev count : ℕ
   count = length capacities
@@ -97,8 +110,12 @@ module _ (capacities targets : List ℕ) (seats : AreSeats capacities targets) w
 
   row_plain : (h : ℕ) → h < count → is_plain_row (row h) ≡ true
   row_plain h low =
-      rw (name_plain (codes "H") 5 (h + 1) refl (omega (arith, low, seats.few)), name_plain (codes "P") 2 (prefecture_of h + 1) refl (omega (arith, mod_below h 47 (omega arith))),
-        decimal_plain (get_or capacities h 0) (omega (arith, seats.small h)), decimal_plain (get_or targets h 0) (omega (arith, seats.small h, seats.within h))) refl
+      rw (
+        name_plain (codes "H") 5 (h + 1) refl (omega (arith, low, seats.few)),
+        name_plain (codes "P") 2 (prefecture_of h + 1) refl (omega (arith, mod_below h 47 (omega arith))),
+        decimal_plain (get_or capacities h 0) (omega (arith, seats.small h)),
+        decimal_plain (get_or targets h 0) (omega (arith, seats.small h, seats.within h)),
+      ) refl
 
   rows_plain : list_all is_plain_row (hospital_rows capacities targets count) ≡ true
   rows_plain = all-below is_plain_row row count row_plain
@@ -127,8 +144,13 @@ module _ (capacities targets : List ℕ) (seats : AreSeats capacities targets) w
   file_short : length (hospitals_text capacities targets) ≤ MOST_BYTES
   file_short =
       let rows : List Row = hospital_rows capacities targets count in
-      omega (arith, seats.few, takes_at_most rows rows_plain 10 rows_short, sum-below (λ (cells : Row). length cells) row 4 count (λ h low. omega arith),
-        sum_by-cons (λ (cells : Row). length cells) hospital_header (map row (below count)))
+      omega (
+        arith,
+        seats.few,
+        takes_at_most rows rows_plain 10 rows_short,
+        sum-below (λ (cells : Row). length cells) row 4 count (λ h low. omega arith),
+        sum_by-cons (λ (cells : Row). length cells) hospital_header (map row (below count)),
+      )
 
   pub hospitals_pass : HospitalsPass capacities targets
   hospitals_pass =

@@ -59,9 +59,13 @@ none f each (c ∷ s) is =
 string_plain : (s : Text) → list_all is_ascii_alphanumeric s ≡ true → string_text s ≡ quote ∷ (s ++ quote ∷ [])
 unfolding string_text encoding_of
 string_plain s is =
-    rw (none is_control (λ c p. (plain_char c p).control) s is, none (λ x. x == backslash) (λ c p. (plain_char c p).no_backslash) s is,
-      none (λ x. x == quote) (λ c p. (plain_char c p).no_quote) s is, none (λ x. x == line_feed) (λ c p. (plain_char c p).no_feed) s is,
-      escaped_same s is) refl
+    rw (
+      none is_control (λ c p. (plain_char c p).control) s is,
+      none (λ x. x == backslash) (λ c p. (plain_char c p).no_backslash) s is,
+      none (λ x. x == quote) (λ c p. (plain_char c p).no_quote) s is,
+      none (λ x. x == line_feed) (λ c p. (plain_char c p).no_feed) s is,
+      escaped_same s is,
+    ) refl
 
 -- ---- bytes below 128
 
@@ -112,10 +116,19 @@ module _ (capacities targets : List ℕ) (caps : AreCaps capacities targets) whe
       ap (λ (t : Text). codes "\n[[prefecture]]\ncap = " ++ t)
       (append_assoc digits (codes "\nname = \"" ++ (name ++ codes "\"\n")) rest ∙ sym (append_assoc digits (codes "\n") (name_line ++ rest))) in
       let quoted : name_line ≡ codes "name = " ++ (quote ∷ (name ++ quote ∷ []) ++ line_feed ∷ []) =
-      ap (λ (t : Text). codes "name = \"" ++ t) (sym (append_assoc name (quote ∷ []) (line_feed ∷ []))) in
-      (codes "\n[[prefecture]]\n", cap_line ++ (name_line ++ rest), whole, refl,
-        (cap_line, name_line ++ rest, refl, (digits, refl, (refl, fits (cap capacities targets q) (caps q))),
-          (name_line, rest, refl, (quote ∷ (name ++ quote ∷ []), quoted, sym (string_plain name (letters q p.0))), entry_lines qs p.1)))
+      ap (λ (t : Text). codes "name = \"" ++ t) (sym (append_assoc name (quote ∷ []) (line_feed ∷ []))) in (
+        codes "\n[[prefecture]]\n",
+        cap_line ++ (name_line ++ rest),
+        whole,
+        refl,
+        (
+          cap_line,
+          name_line ++ rest,
+          refl,
+          (digits, refl, (refl, fits (cap capacities targets q) (caps q))),
+          (name_line, rest, refl, (quote ∷ (name ++ quote ∷ []), quoted, sym (string_plain name (letters q p.0))), entry_lines qs p.1),
+        ),
+      )
 
   all_tables : (qs : List ℕ) → are_tables (items_of (entries qs)) ≡ true
   all_tables [] = refl
@@ -131,9 +144,13 @@ module _ (capacities targets : List ℕ) (caps : AreCaps capacities targets) whe
 
   head_text : (es : List Expression) (rest : Text) → IsLinesText false true es rest → IsLinesText false false (head_lines ++ es) (policy_head ++ rest)
   unfolding key_text string_text encoding_of escaped needs_escape quotes_after
-  head_text es rest lines =
-      (codes "kind = \"flexible\"\n", codes "version = 1\n" ++ rest, refl, (codes "\"flexible\"", refl, refl),
-        (codes "version = 1\n", rest, refl, (codes "1", refl, (sym (decimal_digit 1 (omega arith)), fits 1 (omega arith))), lines))
+  head_text es rest lines = (
+    codes "kind = \"flexible\"\n",
+    codes "version = 1\n" ++ rest,
+    refl,
+    (codes "\"flexible\"", refl, refl),
+    (codes "version = 1\n", rest, refl, (codes "1", refl, (sym (decimal_digit 1 (omega arith)), fits 1 (omega arith))), lines),
+  )
 
   document_text : (q : ℕ) (qs : List ℕ) → are_few (q ∷ qs) ≡ true → IsDocumentText false (policy_members (entries (q ∷ qs))) (policy_head ++ texts (q ∷ qs))
   document_text q qs few =
@@ -188,9 +205,15 @@ module _ (capacities targets : List ℕ) (caps : AreCaps capacities targets) whe
       let name : Text = prefecture_name q in
       let digits : Text = decimal (cap capacities targets q) in
       let tail : Text = codes "\nname = \"" ++ (name ++ codes "\"\n") in
-      omega (arith, caps q, length-append digits tail, length-append name (codes "\"\n"), length-append (codes "P") (in_digits 2 (q + 1)),
+      omega (
+        arith,
+        caps q,
+        length-append digits tail,
+        length-append name (codes "\"\n"),
+        length-append (codes "P") (in_digits 2 (q + 1)),
         length-decimal-le 7 (cap capacities targets q) (omega arith) (omega (arith, caps q)) (omega (arith, caps q)),
-        fills_width 2 (q + 1) (omega arith) (grind (arith, nat_tests)) (grind (arith, nat_tests)))
+        fills_width 2 (q + 1) (omega arith) (grind (arith, nat_tests)) (grind (arith, nat_tests)),
+      )
 
   texts_short : (qs : List ℕ) → are_few qs ≡ true → length (texts qs) ≤ 60 * length qs
   texts_short [] few = omega arith

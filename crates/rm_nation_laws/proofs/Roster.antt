@@ -141,8 +141,13 @@ module _ (capacities targets : List ℕ) (seats : AreSeats capacities targets) (
 
   pub are_caps : AreCaps capacities targets
   are_caps q =
-      omega (arith, seats.few, seats.each, passing-few (λ h. get_or targets h 0) (λ h. prefecture_of h == q) 10 (length targets) (λ h. omega (arith, seats.small h, seats.within h)),
-        passing-few (λ h. get_or capacities h 0) (λ h. prefecture_of h == q) 10 (length capacities) seats.small)
+      omega (
+        arith,
+        seats.few,
+        seats.each,
+        passing-few (λ h. get_or targets h 0) (λ h. prefecture_of h == q) 10 (length targets) (λ h. omega (arith, seats.small h, seats.within h)),
+        passing-few (λ h. get_or capacities h 0) (λ h. prefecture_of h == q) 10 (length capacities) seats.small,
+      )
 
   pub suits : SuitsNation capacities targets roster
   suits = record { prefectures = prefectures_are; caps = are_caps; fit = λ q. omega (arith, targets_are q) }
