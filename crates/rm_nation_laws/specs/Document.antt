@@ -21,7 +21,8 @@ entries_data capacities targets n = map (entry_data capacities targets) (below n
 -- a flexible policy with these entries
 abbrev pub policy_members : List Data → Members
 policy_members entries =
-    member (codes "kind") (string (codes "flexible")) (member (codes "prefecture") (array (items_of entries)) (member (codes "version") (integer (pos 1)) no_members))
+    member (codes "kind") (string (codes "flexible"))
+    (member (codes "prefecture") (array (items_of entries)) (member (codes "version") (integer (pos 1)) no_members))
 
 abbrev pub nation_members : List ℕ → List ℕ → Members
 nation_members capacities targets = policy_members (entries_data capacities targets prefecture_count)
