@@ -30,8 +30,8 @@ nation_policy n seed = policy_text (capacities seed (hospital_count n)) (targets
 abbrev pub generated : ℕ → ℕ → Files
 generated n seed =
     from_entries (
-      (codes "drill/hospitals.csv", nation_hospitals n seed)
-      ∷ (codes "drill/doctors.csv", nation_doctors n seed)
-      ∷ (codes "drill/ranks.csv", nation_ranks n seed)
-      ∷ (codes "drill/policy.toml", nation_policy n seed)
-      ∷ [])
+    (codes "drill/hospitals.csv", nation_hospitals n seed)
+    ∷ (codes "drill/doctors.csv", nation_doctors n seed)
+    ∷ (codes "drill/ranks.csv", nation_ranks n seed)
+    ∷ (codes "drill/policy.toml", nation_policy n seed)
+    ∷ [])
