@@ -1,9 +1,10 @@
 -- Runs of a case's events, in its market.
-use Rattle.std.proofs.Common.{◌≡◌, ◌<◌, ◌+◌, ◌++◌, ℕ, suc, List, [], ◌∷◌, Bool, true, false, length, get_or, drop, map, Option, None, option_map, refl, sym, ap, ◌∙◌, add-one, drop-cons}
-use Rattle.std.proofs.lemmas.List.{map-append}
+use Rattle.std.proofs.Common.{◌≡◌, ◌<◌, ◌+◌, ◌++◌, ℕ, suc, List, [], ◌∷◌, Bool, true, false, length, get_or, drop, map, Option, None, option_map, refl, sym, ap, ap₂, ◌∙◌, subst, add-one, drop-cons}
+use Rattle.std.proofs.lemmas.List.{length-map, map-append}
 use Rattle.rm_sets.specs.Sets.{below}
+use Rattle.rm_sets.proofs.Once.{length-below}
 use Rattle.rm_market.specs.Best.{IsChoice, best_of, values_of}
-use Rattle.rm_market.specs.Board.{Board, contract_count, hospital_of}
+use Rattle.rm_market.specs.Board.{Board, contract_count, hospital_of, owners_of}
 use Rattle.rm_market.specs.Market.{places_of, wishes_of}
 use Rattle.rm_market.specs.Stable.{Wishes, at}
 use Rattle.rm_matching_laws.proofs.Places.{IsSingle, contract_is, contract_is_none}
@@ -11,13 +12,16 @@ use Rattle.rm_market_laws.specs.Results.{ChoosesBest}
 use Rattle.rm_market_laws.proofs.Market.{choice, plain_best}
 use Rattle.rm_market_laws.proofs.Wishes.{are_wishes}
 use Rattle.rm_case.specs.Case.{CaseData, IsCase, market}
+use Rattle.rm_report.proofs.ListedCounts.{listed-each}
 use Rattle.rm_transit_laws.specs.declared.Event.{Event}
 use Rattle.rm_transit_laws.specs.declared.Mark.{Mark}
 use Rattle.rm_transit_laws.specs.Results.{IsMarked, MarksAreTrue}
-use Rattle.rm_transit_laws.specs.Transit.{Sign, none, offer_travels, is_held, refusal_travels, Transit, sign_of, happens, all_happen, mark_from, mark_of}
+use Rattle.rm_transit_laws.specs.Transit.{Sign, none, offer_travels, is_held, refusal_travels, Transit, sign_of, happens, all_happen, after_events, all_rest, mark_from, mark_of}
 use Rattle.rm_transit_laws.proofs.Markets.{travels_well_in}
 use Rattle.rm_transit_laws.proofs.Truth.{marks_true}
-use Rattle.rm_transit.specs.Running.{place_in, marks_of, state_after, marks_after, LeadsToPlacement}
+use Rattle.rm_transit.specs.Running.{place_in, marks_of, state_after, marks_after, rests_after, AreMarksBelow, LeadsToPlacement}
+use Rattle.rm_transit.specs.Travel.{wishes}
+use Rattle.rm_transit.proofs.MarkContracts.{marks_below}
 
 -- ---- one more event, and one more doctor
 
@@ -70,3 +74,29 @@ module _ (c : CaseData) (ok : IsCase c) where
   leads es =
       let well = travels_well_in (market c) ok.market chosen best in
       record { best = well.held es; refused = well.refused es; places = told_places es; rested = well.rested es }
+
+-- ---- what a run over the case's board tells
+
+pub marks_long : (w : Wishes) (t : Transit) (n : ℕ) → length (marks_of w t n) ≡ n
+marks_long w t n = length-map (below n) (mark_of w t) ∙ length-below n
+
+module _ (c : CaseData) (ok : IsCase c) (b : Board) (C : List ℕ → List ℕ) (own : List ℕ) (listed : List (List ℕ)) (board : b ≡ (market c).board) (chooses : C ≡ best_of (values_of b)) (owners : own ≡ owners_of b) (lists : listed ≡ (wishes_of (market c)).listed) (es : List Event) where
+  pub same_wishes : wishes own listed ≡ wishes_of (market c)
+  same_wishes = ap₂ wishes (owners ∙ ap owners_of board) lists
+
+  same_chosen : C ≡ best_of (values_of (market c).board)
+  same_chosen = chooses ∙ ap (λ a. best_of (values_of a)) board
+
+  pub marks_are : (marks : List Mark) → marks ≡ marks_of (wishes own listed) (after_events C (wishes own listed) es) (length listed) → marks ≡ marks_after c es
+  marks_are marks e =
+      e
+      ∙ ap₂ (λ D w. marks_of w (after_events D w es) (length w.listed)) same_chosen same_wishes
+      ∙ ap (marks_of (wishes_of (market c)) (state_after c es)) (listed-each c ok)
+
+  pub rests_are : (rests : Bool) → rests ≡ all_rest (wishes own listed) (after_events C (wishes own listed) es) → rests ≡ rests_after c es
+  rests_are rests e = e ∙ ap₂ (λ D w. all_rest w (after_events D w es)) same_chosen same_wishes
+
+pub case_marks_below : (c : CaseData) → IsCase c → (es : List Event) (marks : List Mark) → marks ≡ marks_after c es → AreMarksBelow (contract_count (market c).board) marks
+case_marks_below c ok es marks e =
+    subst (AreMarksBelow (contract_count (market c).board)) (sym e)
+    (marks_below (contract_count (market c).board) (best_of (values_of (market c).board)) (wishes_of (market c)) (are_wishes (market c) ok.market) es (below (length c.roster.doctors)))

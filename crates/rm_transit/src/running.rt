@@ -33,6 +33,7 @@ pub fn run_events(alloc: Global, case: &Case, events: &[Event]) -> Result<Standi
     requires { All (IsEventOf (wishes_of (market case.now))) events.now }
     ensures marks { IfOk result (λ s. s.marks.items ≡ marks_after case.now events.now) }
     ensures closed { IfOk result (λ s. s.closed ≡ rests_after case.now events.now) }
+    ensures doctors { IfOk result (λ s. length s.marks.items ≡ length case.now.roster.doctors) }
     ensures contracts { IfOk result (λ s. AreMarksBelow (contract_count (market case.now).board) s.marks.items) }
     ensures leads { LeadsToPlacement case.now events.now }
 {
