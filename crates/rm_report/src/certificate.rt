@@ -32,8 +32,8 @@ pub(crate) fn name_of_doctor(case: &Case, x: u32) -> &str
     case.roster().doctors().name(case.board().doctor(x))
 }
 
-// The name of the hospital of contract x.
-pub(crate) fn name_of_hospital(case: &Case, x: u32) -> &str
+/// The name of the hospital of contract x, its number on the case's board, counted from 0.
+pub fn name_of_hospital(case: &Case, x: u32) -> &str
     requires { x < contract_count (market case.now).board }
     ensures { result.now ≡ name_of_hospital case.entry.now x }
 {

@@ -10,10 +10,11 @@ mod placement;
 mod report;
 mod writing;
 
-pub use certificate::certificate_text;
+pub use certificate::{certificate_text, name_of_hospital};
 pub use check::check_text;
 pub use finding::finding_text;
 pub use pair::pair_text;
 pub use placement::placement_text;
 pub use report::prefecture_text;
 pub use rm_base::NoMemory;
+pub use writing::{close, open_writer, write_row};

@@ -1,5 +1,5 @@
 -- The answers of the program, each with its cause and with what it writes.
-use Rattle.std.specs.Prelude.{◌≡◌, ◌≢◌, ◌⊎◌, ℕ, List, [], Option, Some, None, Ok, IsSome, IfSome}
+use Rattle.std.specs.Prelude.{◌≡◌, ◌≢◌, ◌⊎◌, ℕ, List, [], Option, Some, None, Ok, IsSome, IfSome, IsTrue}
 use Rattle.rm_base.specs.Checks.{first_of}
 use Rattle.rm_base.specs.Text.{Text, Files}
 use Rattle.rm_base.specs.declared.Refusal.{Refusal}
@@ -16,6 +16,10 @@ use Rattle.rm_audit.specs.Placement.{placement_in}
 use Rattle.rm_laws.specs.WhatIf.{AreBothPlacements}
 use Rattle.rm_report.specs.Report.{prefecture_text}
 use Rattle.rm_report.specs.Texts.{placement_text, pair_text, check_text, certificate_text, finding_text}
+use Rattle.rm_transit_laws.specs.declared.Event.{Event}
+use Rattle.rm_transit.specs.Events.{events_told}
+use Rattle.rm_transit.specs.Running.{marks_after, rests_after, state_after, LeadsToPlacement}
+use Rattle.rm_transit.specs.Texts.{transit_text}
 use Rattle.rm_verdict_laws.specs.Findings.{IsFinding}
 use Rattle.rm_top.specs.Command.{Command, usage_text, doctor_word, folder_in, file_of, own_refusal, own_rows, refusal_of, word_checks}
 use Rattle.rm_top.specs.Headline.{IsPlaced}
@@ -86,6 +90,12 @@ placed_in c rows = set_of_places (market c) (placement_in c rows)
 abbrev pub IsFindingText : CaseData → List ℕ → Text → Type 0
 IsFindingText c S text = (finding : Finding) × IsFinding (market c) S finding × (text ≡ finding_text c finding)
 
+-- the text of where everybody stands after these events from the start. Whatever they are, the marks tell the places of the best subset of all
+-- delivered offers, and nothing that was refused stands in a stable set; and where the text says `closed`, these are the places of the placement
+abbrev pub IsTransitText : CaseData → List Event → Text → Type 0
+IsTransitText c es text =
+    LeadsToPlacement c es × (IsTrue (rests_after c es) → IsPlaced c (state_after c es).held) × (text ≡ transit_text c (marks_after c es) (rests_after c es))
+
 -- the text of a command with these words on the case of its folder and the rows of its own file
 abbrev pub IsCaseText : Kind → List Text → CaseData → List Row → Text → Type 0
 IsCaseText kinds.Place words c rows text = IsPlacementText c text
@@ -94,6 +104,7 @@ IsCaseText kinds.Report words c rows text = IsReportText c text
 IsCaseText kinds.Choose words c rows text = IsChoiceText c (offers_of c rows) text
 IsCaseText kinds.Audit words c rows text = IsFindingText c (placed_in c rows) text
 IsCaseText kinds.WhatIf words c rows text = IsDoctorsText c (doctor_word words) (choices_of c rows) text
+IsCaseText kinds.Transit words c rows text = IsTransitText c (events_told c rows) text
 
 -- ---- of every command
 
@@ -132,6 +143,7 @@ IsRight kinds.Report c rows = Unit {0}
 IsRight kinds.Choose c rows = Unit {0}
 IsRight kinds.Audit c rows = IsStableIn (market c) (placed_in c rows)
 IsRight kinds.WhatIf c rows = Unit {0}
+IsRight kinds.Transit c rows = Unit {0}
 
 -- where the text was written, the status is 0 exactly where there is nothing to object to, and 1 exactly where there is something; of what no
 -- command judges it is never 1

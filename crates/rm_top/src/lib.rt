@@ -17,6 +17,7 @@ mod prefectures;
 mod replacing;
 mod telling;
 mod texts;
+mod travelling;
 mod without_policy;
 
 use command::Command;

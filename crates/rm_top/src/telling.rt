@@ -13,6 +13,7 @@ use crate::choosing::choose_text;
 use crate::command::{Command, DOCTOR_WORD, Kind, WORDS};
 use crate::prefectures::report_text;
 use crate::replacing::whatif_text;
+use crate::travelling::travel_text;
 use rm_base::Refusal;
 use rm_base::codes::UNKNOWN_DOCTOR;
 use rm_case::{Case, LoadFault, OwnFault, fetch_own};
@@ -62,6 +63,7 @@ fn text_on(alloc: Global, command: &Command<'_>, case: &Case, own: &Table) -> Re
         Kind::Choose => Ok(choose_text(alloc, case, own)?),
         Kind::Audit => return audit_told(alloc, case, own),
         Kind::WhatIf => Ok(whatif_text(alloc, case, command.doctor(), own)?),
+        Kind::Transit => Ok(travel_text(alloc, case, own)?),
     };
     match made {
         Ok(text) => Ok(Told {

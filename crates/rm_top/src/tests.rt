@@ -138,7 +138,7 @@ const NO_COMMAND: Row<'static> = Row {
     words: &[],
     fetches: &[1],
     status: 2,
-    err: b"usage: rm_match place F | check F | report F | choose F OFFERS | audit F PLACEMENT | whatif F DOCTOR LIST\n",
+    err: b"usage: rm_match place F | check F | report F | choose F OFFERS | audit F PLACEMENT | whatif F DOCTOR LIST | transit F EVENTS\n",
     ..REFUSED
 };
 
@@ -557,8 +557,174 @@ static UNREAD_ROWS: [Row<'static>; 9] = [
     },
 ];
 
+const TRAVELLED: Row<'static> = Row {
+    name: "offers that travel, one of which was refused",
+    words: &["transit", "F", "O"],
+    own: Some(b"event,doctor,hospital\nsend,A\nsend,B\noffer,B,H1\noffer,A,H2\nrefusal,A,H2\n"),
+    fetches: &[6],
+    out: b"doctor,hospital,state\nA,,free\nB,H1,held\n,,open\n",
+    ..FLEXIBLE
+};
+
+const REFUSED_EVENTS: Row<'static> = Row {
+    name: "the events are missing",
+    words: &["transit", "F", "O"],
+    ..REFUSED_LIST
+};
+
+const UNREAD_EVENTS: Row<'static> = Row {
+    name: "the first fetch for events fails",
+    words: TRAVELLED.words,
+    own: TRAVELLED.own,
+    ..UNREAD_AUDIT
+};
+
+const UNWRITTEN_EVENTS: Row<'static> = Row {
+    name: "the put of where everybody stands fails",
+    puts: &[1, 2],
+    reports: &[2],
+    status: 5,
+    out: b"",
+    err: b"write fault\n",
+    ..TRAVELLED
+};
+
+static TRAVEL_ROWS: [Row<'static>; 25] = [
+    TRAVELLED,
+    Row {
+        name: "nothing was sent",
+        own: Some(b"event,doctor,hospital\n"),
+        out: b"doctor,hospital,state\nA,,free\nB,,free\n,,open\n",
+        ..TRAVELLED
+    },
+    Row {
+        name: "what isn't delivered travels",
+        own: Some(b"event,doctor,hospital\nsend,A\nsend,B\noffer,B,H1\noffer,A,H2\n"),
+        out: b"doctor,hospital,state\nA,H2,refused\nB,H1,held\n,,open\n",
+        ..TRAVELLED
+    },
+    Row {
+        name: "an offer travels",
+        own: Some(b"event,doctor,hospital\nsend,B\n"),
+        out: b"doctor,hospital,state\nA,,free\nB,H1,offered\n,,open\n",
+        ..TRAVELLED
+    },
+    Row {
+        name: "a doctor who was put out has no contract left, and the placement is held",
+        own: Some(b"event,doctor,hospital\nsend,A\nsend,B\noffer,B,H1\noffer,A,H2\nrefusal,A,H2\nsend,A\noffer,A,H1\nrefusal,B,H1\n"),
+        out: b"doctor,hospital,state\nA,H1,held\nB,,done\n,,closed\n",
+        ..TRAVELLED
+    },
+    Row {
+        name: "what comes again changes nothing",
+        own: Some(
+            b"event,doctor,hospital\nsend,A\nsend,A\nsend,B\noffer,B,H1\noffer,A,H2\noffer,B,H1\nrefusal,A,H2\nrefusal,A,H2\nsend,A\n\
+                offer,A,H1\noffer,A,H2\nrefusal,B,H1\nrefusal,B,H1\nsend,B\noffer,A,H1\n",
+        ),
+        out: b"doctor,hospital,state\nA,H1,held\nB,,done\n,,closed\n",
+        ..TRAVELLED
+    },
+    REFUSED_EVENTS,
+    Row {
+        name: "events that aren't text",
+        own: Some(b"event,doctor,hospital\nsend,A\nsend,\xff\n"),
+        err: b"refused 12 5 2 0\n",
+        ..REFUSED_EVENTS
+    },
+    Row {
+        name: "events with another header",
+        own: Some(b"event,doctor\nsend,A\n"),
+        err: b"refused 13 5 0 3\n",
+        ..REFUSED_EVENTS
+    },
+    Row {
+        name: "no event",
+        own: Some(b"event,doctor,hospital\nsend,A\nlose,Z\n"),
+        err: b"refused 68 5 2 1\n",
+        ..REFUSED_EVENTS
+    },
+    Row {
+        name: "an event of no doctor",
+        own: Some(b"event,doctor,hospital\nsend,Z,H1\n"),
+        err: b"refused 60 5 1 2\n",
+        ..REFUSED_EVENTS
+    },
+    Row {
+        name: "an offer is sent to a hospital of the file's choice",
+        own: Some(b"event,doctor,hospital\nsend,A,H2\n"),
+        err: b"refused 68 5 1 3\n",
+        ..REFUSED_EVENTS
+    },
+    Row {
+        name: "an offer to no hospital",
+        own: Some(b"event,doctor,hospital\noffer,A\n"),
+        err: b"refused 61 5 1 3\n",
+        ..REFUSED_EVENTS
+    },
+    Row {
+        name: "an offer to a hospital that doesn't rank the doctor",
+        own: Some(b"event,doctor,hospital\noffer,A,H1\n"),
+        err: b"refused 65 5 1 3\n",
+        ..REFUSED_EVENTS
+    },
+    Row {
+        name: "a refusal of no hospital",
+        own: Some(b"event,doctor,hospital\noffer,A,H2\nrefusal,A,H9\n"),
+        err: b"refused 61 5 2 3\n",
+        ..REFUSED_EVENTS
+    },
+    Row {
+        name: "a refusal of a hospital that doesn't rank the doctor",
+        own: Some(b"event,doctor,hospital\nsend,A\nrefusal,A,H1\n"),
+        err: b"refused 65 5 2 3\n",
+        ..REFUSED_EVENTS
+    },
+    Row {
+        name: "where the folder is refused, its events are not fetched",
+        words: TRAVELLED.words,
+        ..REFUSED
+    },
+    Row {
+        name: "no file with events",
+        words: &["transit", "F"],
+        ..NO_COMMAND
+    },
+    UNREAD_EVENTS,
+    Row {
+        name: "the second fetch for events fails",
+        fetches: &[2, 3],
+        err: b"read fault 2\n",
+        ..UNREAD_EVENTS
+    },
+    Row {
+        name: "the third fetch for events fails",
+        fetches: &[3, 4],
+        err: b"read fault 3\n",
+        ..UNREAD_EVENTS
+    },
+    Row {
+        name: "the fourth fetch for events fails",
+        fetches: &[4, 5],
+        err: b"read fault 4\n",
+        ..UNREAD_EVENTS
+    },
+    Row {
+        name: "the fetch of the events fails",
+        fetches: &[5, 6],
+        err: b"read fault 5\n",
+        ..UNREAD_EVENTS
+    },
+    UNWRITTEN_EVENTS,
+    Row {
+        name: "neither put of where everybody stands is taken",
+        reports: &[1, 2],
+        err: b"",
+        ..UNWRITTEN_EVENTS
+    },
+];
+
 // Calls whose output has room for so many bytes and no more.
-static TORN_ROWS: [(Row<'static>, usize); 7] = [
+static TORN_ROWS: [(Row<'static>, usize); 9] = [
     (PLACED, 0),
     (PLACED, 10),
     (STEPS, 10),
@@ -566,6 +732,8 @@ static TORN_ROWS: [(Row<'static>, usize); 7] = [
     (AUDITED, 0),
     (AUDITED, 7),
     (REPLACED, 10),
+    (TRAVELLED, 0),
+    (TRAVELLED, 30),
 ];
 
 // The words of a row.
@@ -632,6 +800,12 @@ fn first_wrong(alloc: Global, rows: &[Row<'_>]) -> Result<Option<&'static str>, 
 #[test]
 fn writes_texts(rt: HostRuntime) -> Result<(), Fail> {
     assert_eq!(rt; first_wrong(rt.alloc(), &WRITTEN_ROWS)?, None);
+    Ok(())
+}
+
+#[test]
+fn tells_where_everybody_stands(rt: HostRuntime) -> Result<(), Fail> {
+    assert_eq!(rt; first_wrong(rt.alloc(), &TRAVEL_ROWS)?, None);
     Ok(())
 }
 
