@@ -12,7 +12,7 @@ use Rattle.rm_market_laws.specs.Results.{ChoosesBest}
 use Rattle.rm_market_laws.proofs.Market.{choice, plain_best}
 use Rattle.rm_market_laws.proofs.Wishes.{are_wishes}
 use Rattle.rm_case.specs.Case.{CaseData, IsCase, market}
-use Rattle.rm_report.proofs.ListedCounts.{listed-each}
+use Rattle.rm_report.proofs.Applying.{listed-each}
 use Rattle.rm_transit_laws.specs.declared.Event.{Event}
 use Rattle.rm_transit_laws.specs.declared.Mark.{Mark}
 use Rattle.rm_transit_laws.specs.Results.{IsMarked, MarksAreTrue}
@@ -25,10 +25,10 @@ use Rattle.rm_transit.proofs.MarkContracts.{marks_below}
 
 -- ---- one more event, and one more doctor
 
-pub one_happens : (C : List ℕ → List ℕ) (w : Wishes) (es : List Event) (i : ℕ) (e : Event) (t u : Transit) → i < length es → e ≡ get_or es i e → u ≡ happens C w t e
+pub one_happens : (C : List ℕ → List ℕ) (w : Wishes) (es : List Event) (i : ℕ) (e : Event) (t u : Transit) → i < length es → u ≡ happens C w t (get_or es i e)
     → all_happen C w u (drop (i + 1) es) ≡ all_happen C w t (drop i es)
-one_happens C w es i e t u lt at is =
-    let rest : drop i es ≡ e ∷ drop (i + 1) es = drop-cons es i e lt ∙ (ap (λ y. y ∷ drop (suc i) es) (sym at) ∙ ap (λ k. e ∷ drop k es) (sym (add-one i))) in
+one_happens C w es i e t u lt is =
+    let rest : drop i es ≡ get_or es i e ∷ drop (i + 1) es = drop-cons es i e lt ∙ ap (λ k. get_or es i e ∷ drop k es) (sym (add-one i)) in
     ap (λ s. all_happen C w s (drop (i + 1) es)) is ∙ sym (ap (all_happen C w t) rest)
 
 pub one_marked : (w : Wishes) (t : Transit) (d : ℕ) → marks_of w t (d + 1) ≡ marks_of w t d ++ mark_of w t d ∷ []

@@ -15,7 +15,7 @@ use Rattle.rm_market.specs.Market.{wishes_of}
 use Rattle.rm_roster.specs.Cells.{field, data_rows, header_check, wrong_cell}
 use Rattle.rm_case.specs.Case.{CaseData, IsCase, market}
 use Rattle.rm_case.specs.Own.{doctor_in, hospital_in}
-use Rattle.rm_report.proofs.ListedCounts.{listed-each}
+use Rattle.rm_report.proofs.Applying.{listed-each}
 use Rattle.rm_transit_laws.specs.declared.Event.{Event}
 use Rattle.rm_transit.specs.Events.{contract_checks, event_checks, events_in, row_checks, row_contract, row_doctor, row_event}
 use Rattle.rm_transit.specs.Travel.{IsEventOf}

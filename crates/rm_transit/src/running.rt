@@ -4,7 +4,7 @@ ghost use Rattle.std.specs.Prelude.{◌≡◌, [], All, IfOk, length};
 ghost use Rattle.rm_market.specs.Board.{contract_count};
 ghost use Rattle.rm_market.specs.Laws.{AreWishes};
 ghost use Rattle.rm_market.specs.Market.{wishes_of};
-ghost use Rattle.rm_case.specs.Case.{market};
+ghost use Rattle.rm_case.specs.Case.{IsCase, market};
 ghost use Rattle.rm_transit_laws.specs.Transit.{after_events, all_happen, all_rest};
 ghost use Rattle.rm_transit.specs.Running.{marks_after, marks_of, rests_after, AreMarksBelow, LeadsToPlacement};
 ghost use Rattle.rm_transit.specs.Travel.{transit_state, wishes, IsEventOf};
@@ -36,6 +36,7 @@ pub fn run_events(alloc: Global, case: &Case, events: &[Event]) -> Result<Standi
     ensures doctors { IfOk result (λ s. length s.marks.items ≡ length case.now.roster.doctors) }
     ensures contracts { IfOk result (λ s. AreMarksBelow (contract_count (market case.now).board) s.marks.items) }
     ensures leads { LeadsToPlacement case.now events.now }
+    ensures case { IsCase case.now }
 {
     let board = case.board();
     let holder = FastHolder::open(alloc, board)?;

@@ -1,12 +1,15 @@
 // The text of where the doctors stand.
 
-ghost use Rattle.std.specs.Prelude.{◌≡◌, ◌<◌, length, IfOk, IfSome};
+ghost use Rattle.std.specs.Prelude.{◌≡◌, ◌<◌, ◌++◌, ℕ, List, length, IfOk, IfSome, OnOk};
+ghost use Rattle.csv.specs.Writing.{default_writer, row_text};
 ghost use Rattle.rm_market.specs.Board.{contract_count};
 ghost use Rattle.rm_case.specs.Case.{market};
+ghost use Rattle.rm_report.specs.Open.{Holds};
 ghost use Rattle.rm_transit.specs.Running.{contract_in, AreMarksBelow};
-ghost use Rattle.rm_transit.specs.Texts.{closing_word, mark_hospital, mark_word, transit_text};
+ghost use Rattle.rm_transit.specs.Texts.{closing_row, mark_hospital, mark_word, transit_text};
 
 use crate::NoMemory;
+use csv::Writer;
 use rm_case::Case;
 use rm_report::{close, name_of_hospital, open_writer, write_row};
 use rm_transit_laws::Mark;
@@ -34,7 +37,7 @@ pub fn transit_text(alloc: Global, case: &Case, marks: &[Mark], closed: bool) ->
         let word = mark_word(mark);
         write_row(&mut writer, &[doctor.as_bytes(), hospital.as_bytes(), word.as_bytes()])?;
     }
-    write_row(&mut writer, &[b"", b"", closing_word(closed).as_bytes()])?;
+    write_closing(&mut writer, closed)?;
     let text = close(writer)?;
     Ok(text)
 }
@@ -63,9 +66,13 @@ fn mark_word<'a>(mark: Mark) -> &'a str
     }
 }
 
-// The word of whether everything rests.
-fn closing_word<'a>(closed: bool) -> &'a str
-    ensures { result.now ≡ closing_word closed }
+// Writes the last row, of whether everything rests.
+fn write_closing(writer: &mut Writer<Vec<u8>>, closed: bool) -> Result<(), NoMemory>
+    ensures { OnOk result ((text : List ℕ) → Holds writer.old text → Holds writer.new (text ++ row_text default_writer (closing_row closed))) }
 {
-    if closed { "closed" } else { "open" }
+    if closed {
+        write_row(writer, &[b"", b"", b"closed"])
+    } else {
+        write_row(writer, &[b"", b"", b"open"])
+    }
 }

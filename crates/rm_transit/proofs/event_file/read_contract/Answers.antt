@@ -14,13 +14,13 @@ pub returns-in-Some-find-clause-passes : goal.returns-in-Some-find-clause-passes
 returns-in-Some-find-clause-passes c =
     let h = found-name c.args.case.now.roster.hospitals _ (field 3 c.args.row.now) _ _ _ (c.hospitals.ensures.hospitals ∙ ap (λ r. r.hospitals) c.roster.ensures.roster) c.cell.ensures c.find.ensures c.in-Some.is in
     let x = found-number c.args.case.now _ c.board.ensures.board c.args.d c.in-Some.h _ _ c.find-2.ensures c.in-Some-find.is in
-    is_contract c.args.case.now c.args.row.now c.args.d c.in-Some.h c.requires h c.args.i c.in-Some-find.x x
+    is_contract c.args.case.now c.args.row.now c.args.d c.in-Some.h c.requires.doctor h c.args.i c.in-Some-find.x x
 
 pub returns-in-Some-find-clause-contract : goal.returns-in-Some-find-clause-contract
 returns-in-Some-find-clause-contract c =
     let h = found-name c.args.case.now.roster.hospitals _ (field 3 c.args.row.now) _ _ _ (c.hospitals.ensures.hospitals ∙ ap (λ r. r.hospitals) c.roster.ensures.roster) c.cell.ensures c.find.ensures c.in-Some.is in
     let x = found-number c.args.case.now _ c.board.ensures.board c.args.d c.in-Some.h _ _ c.find-2.ensures c.in-Some-find.is in
-    contract_is c.args.case.now c.args.row.now c.args.d c.in-Some.h c.requires h ∙ x
+    contract_is c.args.case.now c.args.row.now c.args.d c.in-Some.h c.requires.doctor h ∙ x
 
 pub returns-in-Some-find-clause-below : goal.returns-in-Some-find-clause-below
 returns-in-Some-find-clause-below c =
@@ -30,4 +30,4 @@ pub returns-in-None-clause-stops : goal.returns-in-None-clause-stops
 returns-in-None-clause-stops c =
     let h = found-name c.args.case.now.roster.hospitals _ (field 3 c.args.row.now) _ _ _ (c.hospitals.ensures.hospitals ∙ ap (λ r. r.hospitals) c.roster.ensures.roster) c.cell.ensures c.find.ensures c.in-Some.is in
     let x = found-number c.args.case.now _ c.board.ensures.board c.args.d c.in-Some.h _ _ c.find-2.ensures c.in-None.is in
-    rw c.refused-in-None.ensures (no_contract c.args.case.now c.args.row.now c.args.d c.in-Some.h c.requires h c.args.i x)
+    rw c.refused-in-None.ensures (no_contract c.args.case.now c.args.row.now c.args.d c.in-Some.h c.requires.doctor h c.args.i x)

@@ -51,3 +51,6 @@ returns-clause-contracts c =
 
 pub returns-clause-leads : goal.returns-clause-leads
 returns-clause-leads c = leads c.args.case.now c.board-board.ensures.case c.args.events.now
+
+pub returns-in_err-holder-clause-leads : goal.returns-in_err-holder-clause-leads
+returns-in_err-holder-clause-leads c = leads c.args.case.now c.board-board.ensures.case c.args.events.now
