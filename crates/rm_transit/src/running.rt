@@ -76,7 +76,11 @@ fn step_all<H: Holder>(transit: &mut Transit<'_, H>, events: &[Event])
 }
 
 // Where each doctor stands.
-fn all_marks<H: Holder>(alloc: Global, transit: &Transit<'_, H>, doctors: u32) -> Result<Vec<Mark>, NoMemory>
+fn all_marks<H: Holder>(
+    alloc: Global,
+    transit: &Transit<'_, H>,
+    doctors: u32,
+) -> Result<Vec<Mark>, NoMemory>
     requires { doctors ≡ length transit.now.wishes.listed }
     ensures { IfOk result (λ v. v.items ≡ marks_of transit.now.wishes (transit_state H.held transit.now) doctors) }
 {
