@@ -54,8 +54,10 @@ fn run_with<H: Holder + Drop>(
     requires wishes { AreWishes (H.count holder) (wishes owners.now listed.now) }
     requires empty { H.held holder ≡ [] }
     requires events { All (IsEventOf (wishes owners.now listed.now)) events.now }
-    ensures marks { IfOk result (λ s. s.marks.items ≡ marks_of (wishes owners.now listed.now) (after_events (H.chosen holder) (wishes owners.now listed.now) events.now) (length listed.now)) }
-    ensures closed { IfOk result (λ s. s.closed ≡ all_rest (wishes owners.now listed.now) (after_events (H.chosen holder) (wishes owners.now listed.now) events.now)) }
+    ensures marks { IfOk result (λ s. s.marks.items
+        ≡ marks_of (wishes owners.now listed.now) (after_events (H.chosen holder) (wishes owners.now listed.now) events.now) (length listed.now)) }
+    ensures closed { IfOk result (λ s. s.closed
+        ≡ all_rest (wishes owners.now listed.now) (after_events (H.chosen holder) (wishes owners.now listed.now) events.now)) }
 {
     let mut transit = Transit::open(alloc, listed, owners, holder)?;
     step_all(&mut transit, events);
@@ -67,7 +69,8 @@ fn run_with<H: Holder + Drop>(
 // The events happen, one after the other.
 fn step_all<H: Holder>(transit: &mut Transit<'_, H>, events: &[Event])
     requires { All (IsEventOf transit.old.wishes) events.now }
-    ensures state { transit_state H.held transit.new ≡ all_happen (H.chosen transit.old.holder) transit.old.wishes (transit_state H.held transit.old) events.now }
+    ensures state { transit_state H.held transit.new
+        ≡ all_happen (H.chosen transit.old.holder) transit.old.wishes (transit_state H.held transit.old) events.now }
     ensures wishes { transit.new.wishes ≡ transit.old.wishes }
 {
     for i in 0..events.len() {
