@@ -8,7 +8,7 @@ ghost use Rattle.rm_market.specs.Stable.{IsPlacement};
 ghost use Rattle.rm_market.specs.declared.Finding.TheVariants.{Stable};
 ghost use Rattle.rm_verdict_laws.specs.Findings.{IsFinding};
 ghost use Rattle.rm_case.specs.Case.{IsCase, market};
-ghost use Rattle.rm_audit.specs.Blocking.{AreMarks};
+ghost use Rattle.rm_audit.specs.Blocking.{AreMarks, blocking_finding};
 ghost use Rattle.rm_audit.specs.CountForm.{IsStableByCounts};
 ghost use Rattle.rm_audit.specs.Placement.{AreListedPlaces};
 
@@ -84,6 +84,16 @@ fn contracts_of(alloc: Global, board: &Board, marks: &[bool]) -> Result<Vec<u32>
     Ok(contracts)
 }
 
+// The finding on a set that is the best subset of itself, from the least contract that blocks it.
+fn blocking_finding(blocking: Option<u32>) -> Finding
+    ensures { result ≡ blocking_finding blocking }
+{
+    match blocking {
+        Some(x) => Finding::Blocks(x),
+        None => Finding::Stable,
+    }
+}
+
 // The finding on a set of placed contracts, which are also marked.
 fn finding_on(
     alloc: Global,
@@ -105,8 +115,6 @@ fn finding_on(
         return Ok(Finding::Unwanted(z));
     }
     let cheapest = cheapest_of(alloc, board, &counts, contracts)?;
-    match first_blocking(board, case.listed(), &counts, &cheapest, marks) {
-        Some(x) => Ok(Finding::Blocks(x)),
-        None => Ok(Finding::Stable),
-    }
+    let blocking = first_blocking(board, case.listed(), &counts, &cheapest, marks);
+    Ok(blocking_finding(blocking))
 }
