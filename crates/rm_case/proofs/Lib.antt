@@ -11,6 +11,7 @@ mod RegionsEntries
 mod RegionsNodes
 mod RegionsSums
 mod RegionsTold
+mod RaisedLemmas
 mod ReplacedLists
 pub mod Solved
 mod Titles

@@ -6,6 +6,7 @@ mod check;
 mod counts;
 mod pair;
 mod placement;
+mod relax;
 mod report;
 mod writing;
 
@@ -13,5 +14,6 @@ pub use certificate::certificate_text;
 pub use check::check_text;
 pub use pair::pair_text;
 pub use placement::placement_text;
+pub use relax::relax_text;
 pub use report::prefecture_text;
 pub use rm_base::NoMemory;
