@@ -3,7 +3,7 @@ use Rattle.std.proofs.Common.{◌≡◌, ℕ, suc, ◌<◌, List, [], ◌∷◌,
 use Rattle.std.proofs.lemmas.List.{map-append}
 use Rattle.std.proofs.Math.Seq.{take-suc-set}
 use Rattle.rm_sets.specs.Sets.{IsSetBelow, below}
-use Rattle.rm_market.specs.Board.{Board, contract_count, hospital_of, owners_of}
+use Rattle.rm_market.specs.Board.{Board, contract_count, hospital_of, owners_of, owners_of_ranks, pairs_of}
 use Rattle.rm_market.specs.Best.{IsBest, values_of}
 use Rattle.rm_market.specs.Stable.{Wishes, at, IsOnlyOptimal, Takes}
 use Rattle.rm_market.specs.Laws.{AreWishes}
@@ -59,6 +59,12 @@ module _ (c : CaseData) (ok : IsCase c) where
     doctors = listed_long (market c) ok.market ∙ doctors;
     lists = (are_wishes (market c) ok.market).lists;
   }
+
+  -- and so on each board with the case's contracts
+  pub wishes-on : (b : Board) (listed : List (List ℕ)) → b.ranks ≡ (market c).board.ranks → listed ≡ (wishes_of (market c)).listed → AreWishes (contract_count b) (wishes (owners_of b) listed)
+  wishes-on b listed same own =
+      let are : AreWishes (contract_count (market c).board) (wishes (owners_of (market c).board) (wishes_of (market c)).listed) = are_wishes (market c) ok.market in
+      subst₂ (λ (R L : List (List ℕ)). AreWishes (length (pairs_of R)) (wishes (owners_of_ranks R) L)) (sym same) (sym own) are
 
   pub own-solved : (places : List (Option ℕ)) → IsSolvedWith c (wishes_of (market c)).listed places → IsSolved c places
   own-solved places found =

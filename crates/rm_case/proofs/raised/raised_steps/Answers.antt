@@ -1,0 +1,1 @@
+use Rattle.rm_case.proofs.raised.raised_steps.Goals as goal
