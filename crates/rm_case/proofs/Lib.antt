@@ -14,7 +14,7 @@ mod RegionsTold
 mod RaisedLemmas
 mod ReplacedLists
 pub mod Solved
-mod Titles
+pub mod Titles
 mod Told
 mod TurnLemmas
 mod TurnRuns

@@ -1,11 +1,14 @@
 //! What a greater cap would give, and what a doctor's withdrawal: two placements of one case, and nobody else is worse off.
 #![tactic(auto)]
 
+mod asked;
+
 ghost use Rattle.std.specs.Prelude.{◌<◌, length, IfOk};
 ghost use Rattle.rm_case.specs.Case.{IsCase};
 ghost use Rattle.rm_case.specs.Raised.{MayRaise};
 ghost use Rattle.rm_relax.specs.Relaxed.{AreRelaxed, AreWithoutHim};
 
+pub use asked::{Asked, ask};
 pub use rm_base::NoMemory;
 use rm_case::Case;
 pub use rm_case::Pair;
