@@ -4,7 +4,7 @@ mod SuitsLemmas
 mod FolderChecks
 mod Markets
 pub mod NumberedRows
-mod OfferRows
+pub mod OfferRows
 mod OrderLemmas
 mod Regions
 mod RegionsEntries

@@ -4,16 +4,19 @@
 mod certificate;
 mod check;
 mod counts;
+mod finding;
 mod pair;
 mod placement;
 mod relax;
 mod report;
 mod writing;
 
-pub use certificate::certificate_text;
+pub use certificate::{certificate_text, name_of_hospital};
 pub use check::check_text;
+pub use finding::finding_text;
 pub use pair::pair_text;
 pub use placement::placement_text;
 pub use relax::relax_text;
 pub use report::prefecture_text;
 pub use rm_base::NoMemory;
+pub use writing::{close, open_writer, write_row};

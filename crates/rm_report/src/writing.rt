@@ -8,7 +8,7 @@ use csv::{Writer, WriterBuilder};
 use rm_base::NoMemory;
 use std::alloc::{AllocError, Global};
 
-// A writer with the defaults, with room for a text of so many bytes.
+/// A writer with the defaults of `csv`, with room for a text of so many bytes. `NoMemory` is want of memory, here and below.
 pub fn open_writer(alloc: Global, bytes: usize) -> Result<Writer<Vec<u8>>, NoMemory>
     ensures { IfOk result (λ writer. Holds writer []) }
 {
@@ -17,7 +17,7 @@ pub fn open_writer(alloc: Global, bytes: usize) -> Result<Writer<Vec<u8>>, NoMem
     Ok(WriterBuilder::new().from_writer(text))
 }
 
-// Writes a row.
+/// Writes a row of cells.
 pub fn write_row(writer: &mut Writer<Vec<u8>>, row: &[&[u8]]) -> Result<(), NoMemory>
     ensures { OnOk result ((text : List ℕ) → Holds writer.old text → Holds writer.new (text ++ row_text default_writer (map (λ f. f.now) row.now))) }
 {
@@ -27,7 +27,7 @@ pub fn write_row(writer: &mut Writer<Vec<u8>>, row: &[&[u8]]) -> Result<(), NoMe
     }
 }
 
-// The text that was written.
+/// The text that was written.
 pub fn close(writer: Writer<Vec<u8>>) -> Result<Vec<u8>, NoMemory>
     ensures { IfOk result (λ v. (text : List ℕ) → Holds writer text → v.items ≡ text) }
 {

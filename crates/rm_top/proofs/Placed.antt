@@ -15,7 +15,10 @@ use Rattle.rm_case.specs.Regions.{AreRegionsOf}
 use Rattle.rm_case.specs.Solving.{IsSolved}
 use Rattle.rm_report.specs.Report.{prefecture_text}
 use Rattle.rm_report.specs.Texts.{placement_text}
-use Rattle.rm_top.specs.Answers.{IsPlacementText, IsReportText}
+use Rattle.rm_transit_laws.specs.declared.Event.{Event}
+use Rattle.rm_transit.specs.Running.{marks_after, rests_after, state_after, LeadsToPlacement}
+use Rattle.rm_transit.specs.Texts.{transit_text}
+use Rattle.rm_top.specs.Answers.{IsPlacementText, IsReportText, IsTransitText}
 use Rattle.rm_top.specs.Headline.{NobodyGains, PlacesTheSame, procedure_after, EndsIn, IsPlaced}
 
 nobody_gains : (m : Market) (S : List ℕ) → IsMarket m → IsPlacementOf m S → NobodyGains m S
@@ -52,3 +55,6 @@ placed_text c hospitals text case solved is = (solved.set, placed c solved.set c
 
 pub placed_report : (c : CaseData) (hospitals : List (Option ℕ)) (text : Text) → IsCase c → IsSolved c hospitals → text ≡ prefecture_text c hospitals → IsReportText c text
 placed_report c hospitals text case solved is = (solved.set, placed c solved.set case solved.feasible solved.placement, rw solved.places at is)
+
+pub placed_travel : (c : CaseData) (es : List Event) (text : Text) → IsCase c → LeadsToPlacement c es → text ≡ transit_text c (marks_after c es) (rests_after c es) → IsTransitText c es text
+placed_travel c es text case leads is = (leads, λ rests. let held = leads.rested rests in placed c (state_after c es).held case held.optimal.stable.kept.feasible held, is)

@@ -1,9 +1,9 @@
 -- Wrong texts and wrong endings, and what refuses them.
-use Rattle.std.proofs.Common.{◌≡◌, ◌≢◌, ℕ, ◌+◌, ◌-◌, List, [], ◌++◌, length, take, Option, None, Some, Result, Ok, Err, IsSome, is_some, refl, sym, ap, ◌∙◌, ⊎_elim, arith, true≢false}
+use Rattle.std.proofs.Common.{◌≡◌, ◌≢◌, ℕ, ◌+◌, ◌-◌, List, [], ◌++◌, length, take, Option, None, Some, Result, Ok, Err, IsSome, is_some, inl, refl, sym, subst, ap, ◌∙◌, ⊎_elim, arith, true≢false}
 use Rattle.rm_base.specs.Text.{Text, Files}
 use Rattle.rm_base.specs.declared.Refusal.{Refusal}
 use Rattle.rm_market.specs.Certificate.{certificate}
-use Rattle.rm_market.specs.Market.{Best, IsPlacementOf, places_of}
+use Rattle.rm_market.specs.Market.{Best, IsPlacementOf, IsStableIn, places_of}
 use Rattle.rm_outside.specs.Outside.{HasRisen}
 use Rattle.rm_case.specs.Case.{CaseData, market, market_of}
 use Rattle.rm_report.specs.Texts.{placement_text, check_text, certificate_text}
@@ -18,13 +18,17 @@ use Rattle.rm_top.specs.Answers.{
   IsChoiceText,
   IsComplete,
   IsErrorText,
+  IsObjectedWhere,
   IsPlacementText,
   IsRefusedWhere,
+  OfGiven,
   Reports,
   WrotePart,
   WroteText,
+  objected,
+  placed_in,
 }
-use Rattle.rm_top.specs.Command.{Command, file_of, folder_in, refusal_of, usage_text}
+use Rattle.rm_top.specs.Command.{Command, file_of, folder_in, own_rows, refusal_of, usage_text}
 use Rattle.rm_top.specs.Texts.{refusal_text, read_fault_text}
 use Rattle.rm_top.specs.declared.command.Kind.TheVariants as kinds
 
@@ -47,11 +51,11 @@ accepted_or_refused e = cc
 
 text_of_refused : (files : Files) (command : Command) (r : Refusal) (before after : Option Text) → market_of files (folder_in command) ≡ Err r
     → ¬ WroteText (Some files) (Some command) before after
-text_of_refused files command r before after is wrote = accepted_or_refused (sym wrote.is_text.1 ∙ is)
+text_of_refused files command r before after is wrote = accepted_or_refused (sym wrote.is_text.2.0 ∙ is)
 
 part_of_refused : (files : Files) (command : Command) (r : Refusal) (before after : Option Text) → market_of files (folder_in command) ≡ Err r
     → ¬ WrotePart (Some files) (Some command) before after
-part_of_refused files command r before after is wrote = accepted_or_refused (sym wrote.is_text.1 ∙ is)
+part_of_refused files command r before after is wrote = accepted_or_refused (sym wrote.is_text.2.0 ∙ is)
 
 -- of `check` all counts of the case are gained, and where the put failed, a front of them
 abbrev check_of : List Text → Command
@@ -63,13 +67,13 @@ same_counts e f = cc
 all_counts : (files : Files) (words : List Text) (c : CaseData) (before after : Text) → market_of files (folder_in (check_of words)) ≡ Ok c
     → WroteText (Some files) (Some (check_of words)) (Some before) (Some after) → after ≡ before ++ check_text c
 all_counts files words c before after is wrote =
-    wrote.gained ∙ ap (λ (t : Text). before ++ t) (wrote.is_text.3 ∙ same_counts wrote.is_text.1 is)
+    wrote.gained ∙ ap (λ (t : Text). before ++ t) (wrote.is_text.3 ∙ same_counts wrote.is_text.2.0 is)
 
 front_of_counts : (files : Files) (words : List Text) (c : CaseData) (before after : Text) → market_of files (folder_in (check_of words)) ≡ Ok c
     → WrotePart (Some files) (Some (check_of words)) (Some before) (Some after) → (k : ℕ) × (after ≡ before ++ take k (check_text c))
 front_of_counts files words c before after is wrote =
     let k = wrote.gained.0 in
-    (k, wrote.gained.2 ∙ ap (λ (t : Text). before ++ take k t) (wrote.is_text.3 ∙ same_counts wrote.is_text.1 is))
+    (k, wrote.gained.2 ∙ ap (λ (t : Text). before ++ take k t) (wrote.is_text.3 ∙ same_counts wrote.is_text.2.0 is))
 
 -- ---- what `err` gains
 
@@ -87,7 +91,7 @@ untold_want : (files : Option Files) (blame : Option (Option Text)) (command : O
 untold_want files blame command says = none_or_some 9 refl (says.memory refl)
 
 told_too_much : (files : Option Files) (blame : Option (Option Text)) (command : Option Command) → ¬ IsErrorText files blame command written usage_text
-told_too_much files blame command says = none_or_some (length usage_text - 1) refl (sym (says.nothing refl))
+told_too_much files blame command says = none_or_some (length usage_text - 1) refl (sym (says.nothing (inl refl)))
 
 -- and no line is left out where the faults didn't rise
 left_out : (before after : ℕ) → ¬ HasRisen before after → ¬ Reports before after (Some []) (Some []) usage_text
@@ -124,4 +128,28 @@ let_through files command r status is answered other says = other (says.1 (ap (�
 
 -- what is given up without a fault
 given_up : (files : Files) (command : Command) → refusal_of files command ≡ None → ¬ IsComplete (Some files) (Some command) write_failed ⊥ ⊥
-given_up files command none says = ⊎_elim (λ e. omega (arith, e)) (λ e. omega (arith, e)) (says (λ f. f) (λ f. f) none)
+given_up files command none says = ⊎_elim (λ e. ⊎_elim (λ f. omega (arith, f)) (λ f. omega (arith, f)) e) (λ e. omega (arith, e)) (says (λ f. f) (λ f. f) none)
+
+-- status 0 of an audit whose placement isn't stable, and status 1 of one that is, where the files are told
+abbrev audit_of : List Text → Command
+audit_of words = record { kind = kinds.Audit; words = words }
+
+same_case : {c d : CaseData} {result : Result CaseData Refusal} → result ≡ Ok c → result ≡ Ok d → c ≡ d
+same_case e f = cc
+
+of_placement : (files : Files) (words : List Text) (c : CaseData) (P : CaseData → List ℕ → Type 0) → market_of files (folder_in (audit_of words)) ≡ Ok c
+    → OfGiven (Some files) (audit_of words) (λ d rows. P d (placed_in d rows)) → P c (placed_in c (own_rows files (audit_of words)))
+of_placement files words c P is (d, rows, given, holds) =
+    subst (λ x. P x (placed_in x (own_rows files (audit_of words)))) (same_case given.0 is) (rw given.2 at holds)
+
+passed : (files : Files) (words : List Text) (c : CaseData) → market_of files (folder_in (audit_of words)) ≡ Ok c
+    → ¬ IsStableIn (market c) (placed_in c (own_rows files (audit_of words))) → ¬ IsObjectedWhere (Some files) (Some (audit_of words)) written
+passed files words c is not says = not (of_placement files words c (λ d S. IsStableIn (market d) S) is (says.0 refl))
+
+accused : (files : Files) (words : List Text) (c : CaseData) → market_of files (folder_in (audit_of words)) ≡ Ok c
+    → IsStableIn (market c) (placed_in c (own_rows files (audit_of words))) → ¬ IsObjectedWhere (Some files) (Some (audit_of words)) objected
+accused files words c is stable says = of_placement files words c (λ d S. ¬ IsStableIn (market d) S) is (says.1 refl) stable
+
+-- and status 1 of a command that judges nothing, whatever is told
+judged_a_count : (files : Option Files) (words : List Text) → ¬ IsObjectedWhere files (Some (check_of words)) objected
+judged_a_count files words says = let wrong = says.1 refl in wrong.3 tt

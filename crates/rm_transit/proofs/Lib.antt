@@ -1,4 +1,7 @@
+pub mod CaseRuns
 pub mod Doctors
+mod EventRows
 pub mod Events
+mod MarkContracts
 pub mod Rest
 pub mod OneSeat
