@@ -1,21 +1,21 @@
 -- The board that the tree, the steps with a raised cap and the tie rule make is that of the case with the raised cap.
 use Rattle.std.proofs.Common.{◌≡◌, ◌∙◌, ◌+◌, ◌-◌, ◌<◌, ◌≤◌, ℕ, zero, suc, true, false, List, [], ◌∷◌, ◌++◌, length, get_or, set, drop, replicate, map, ℤ, pos, All, refl, sym, ap, ap₂, subst, arith, get_or-set_other}
-use Rattle.std.proofs.lemmas.List.{set-append_right, drop-set-add, length-append}
+use Rattle.std.proofs.lemmas.List.{set-append_right, drop-set-add}
 use Rattle.std.proofs.lemmas.Option.{get_or_from_slice_get}
 use Rattle.rm_board.specs.Boards.{board_of as built_board}
 use Rattle.rm_board.specs.Rules.{order_of}
 use Rattle.rm_board.specs.declared.ties.TieRule.{TieRule}
 use Rattle.rm_board_laws.specs.HospitalBoards.{group_nodes, hospital_nodes}
-use Rattle.rm_market.specs.Board.{Board, Node, no_node, node_at, pairs_of}
+use Rattle.rm_market.specs.Board.{Board, Node, node_at, pairs_of}
 use Rattle.rm_market.specs.Market.{IsMarket}
 use Rattle.rm_market.specs.Tree.{TreeOf}
-use Rattle.rm_relax_laws.specs.Raised.{IsOutermost, IsRaisedCap, with_cap}
+use Rattle.rm_relax_laws.specs.Raised.{IsRaisedCap}
 use Rattle.rm_relax_laws.proofs.Results.{stays_market_with_cap}
 use Rattle.rm_relax_laws.proofs.Roots.{roots_have_no_parent}
 use Rattle.rm_policy.specs.Policy.{PolicyData, IsPolicy}
 use Rattle.rm_roster.specs.Roster.{RosterData, IsRoster}
 use Rattle.rm_case.specs.Case.{CaseData, IsCase, market}
-use Rattle.rm_case.specs.Compiled.{compiled_board, compiled_steps, tie_order_of}
+use Rattle.rm_case.specs.Compiled.{compiled_board, compiled_steps}
 use Rattle.rm_case.specs.NodeSteps.{node_steps}
 use Rattle.rm_case.specs.Raised.{MayRaise, node_of_group, raised}
 use Rattle.rm_case.specs.Suits.{IsRuleOf}
@@ -81,7 +81,7 @@ raised_made r p tree steps t board g cap roster policy e lt tree_is steps_are ma
     made
     ∙ (ap₂ (λ (T : TreeOf) (L : List (List ℤ)). built_board r.ranks T L (order_of r.ranks t)) tree_is steps_are
     ∙ ap₂ (λ (nodes : List Node) (ties : List ℕ). record { ranks = r.ranks; leaves = map (λ x. x.1) (pairs_of r.ranks); nodes = nodes; ties = ties })
-      (raised_nodes r p roster policy g lt (replicate cap (pos 0))) (rule_order r p t e))
+    (raised_nodes r p roster policy g lt (replicate cap (pos 0))) (rule_order r p t e))
 
 -- the group's cap is an outermost one that is raised
 pub is_raised : (c : CaseData) (g cap : ℕ) → IsCase c → MayRaise c g cap → IsRaisedCap (market c).board (node_of_group c g) cap

@@ -1,6 +1,6 @@
 -- A case with a raised cap: the board on which a group that is given by `cap` has a greater one.
-use Rattle.std.specs.Prelude.{◌≡◌, ◌+◌, ◌<◌, ◌≤◌, ℕ, true, List, [], length, get_or, Some, None, slice_get}
-use Rattle.rm_market.specs.Board.{Board, sets_of}
+use Rattle.std.specs.Prelude.{◌≡◌, ◌+◌, ◌<◌, ◌≤◌, ℕ, true, [], length, get_or, Some, None, slice_get}
+use Rattle.rm_market.specs.Board.{sets_of}
 use Rattle.rm_market.specs.Market.{Market}
 use Rattle.rm_market.specs.Tree.{parent}
 use Rattle.rm_relax_laws.specs.Raised.{market_with_cap}

@@ -17,10 +17,13 @@ group-low p name g ok = by (place_of others name) (place_of (entry_names p) name
   where
     n : ℕ
     n = length p.orders
+
     others : List Text
     others = drop n p.groups.names
+
     first-long : length (entry_names p) ≡ n
     first-long = length-take-le n p.groups.names (omega (arith, ok.few_orders, ok.names_each))
+
     by : (o q : Option ℕ) → ((k : ℕ) → o ≡ Some k → k < length others) → ((k : ℕ) → q ≡ Some k → k < length (entry_names p))
         → option_or (option_map (λ k. length (entry_names p) + k) o) q ≡ Some g → g < length p.groups.members
     by (Some k) q low first is =

@@ -18,13 +18,7 @@ fn change_word(before: Option<u32>, after: Option<u32>) -> &'static str
 {
     match (before, after) {
         (None, None) => "same",
-        (Some(g), Some(h)) => {
-            if g == h {
-                "same"
-            } else {
-                "better"
-            }
-        }
+        (Some(g), Some(h)) => { if g == h { "same" } else { "better" } }
         _ => "better",
     }
 }
