@@ -6,5 +6,5 @@ pub returns : goal.returns
 returns c =
     IfOk-weaker c.transit_text.result _ _
     (λ text is. placed_travel c.args.case.now c.args.events.now text.items c.run_events.ensures.case c.run_events.ensures.leads
-    (rw (c.in_ok-standing.ensures.marks, c.in_ok-standing.ensures.closed) at is))
+    (rw (c.deref.ensures.value, c.in_ok-standing.ensures.marks, c.in_ok-standing.ensures.closed) at is))
     c.transit_text.ensures
