@@ -4,18 +4,26 @@ use Rattle.rm_sets.specs.Sets.{IsSetBelow}
 use Rattle.rm_market.specs.Best.{IsBest, best_of, values_of}
 use Rattle.rm_market.specs.Board.{Board, contract_count, owners_of}
 use Rattle.rm_market.specs.Market.{Market, IsMarket, IsPlacementOf, wishes_of}
+use Rattle.rm_market.specs.Stable.{Wishes}
 use Rattle.rm_rounds.specs.Desk.{wishes}
 use Rattle.rm_journal_laws.specs.declared.Entry.{Entry}
 use Rattle.rm_journal_laws.specs.declared.Check.{Check}
 use Rattle.rm_journal_laws.specs.declared.Check.TheVariants as checks
-use Rattle.rm_journal_laws.specs.Journal.{Says, left_by}
+use Rattle.rm_journal_laws.specs.Journal.{IsOwnJournal, Says, left_by}
 use Rattle.rm_journal_laws.proofs.Results.{ends_in_placement}
 
 module _ (m : Market) (C : List ℕ → List ℕ) (b : Board) (own : List ℕ) (listed : List (List ℕ)) (board : b ≡ m.board) (chosen : C ≡ best_of (values_of b)) (owners : own ≡ owners_of b) (lists : listed ≡ (wishes_of m).listed) (entries : List Entry) (check : Check) where
+  -- the same by the market's best subsets and wishes
+  in_market : (P : (List ℕ → List ℕ) → Wishes → Type 0) → P C (wishes own listed) → P (best_of (values_of m.board)) (wishes_of m)
+  in_market P so =
+      let by_board = subst₂ P chosen (ap₂ wishes owners lists) so in
+      subst (λ a. P (best_of (values_of a)) (wishes (owners_of a) (wishes_of m).listed)) board by_board
+
   pub says_in : Says C (wishes own listed) entries check → Says (best_of (values_of m.board)) (wishes_of m) entries check
-  says_in says =
-      let by_board = subst₂ (λ D w. Says D w entries check) chosen (ap₂ wishes owners lists) says in
-      subst (λ a. Says (best_of (values_of a)) (wishes (owners_of a) (wishes_of m).listed) entries check) board by_board
+  says_in says = in_market (λ D w. Says D w entries check) says
+
+  pub own_in : IsOwnJournal C (wishes own listed) entries → IsOwnJournal (best_of (values_of m.board)) (wishes_of m) entries
+  own_in is = in_market (λ D w. IsOwnJournal D w entries) is
 
   pub placed_in :
       IsMarket m → ((X : List ℕ) → IsSetBelow (contract_count b) X → IsBest (values_of b) X (C X)) →

@@ -1,2 +1,3 @@
 mod Checked
 mod InMarket
+mod Owned

@@ -1,1 +1,2 @@
 pub mod Doctors
+pub mod Owned

@@ -2,8 +2,10 @@
 #![tactic(auto)]
 
 mod checking;
+mod owning;
 
 pub use checking::verify;
+pub use owning::own_journal;
 pub use rm_base::NoMemory;
 pub use rm_journal_laws::{Check, Entry, Outcome};
 
