@@ -9,6 +9,8 @@ use Rattle.rm_market.specs.Board.{Board, contract_count, doctor_of, hospital_of,
 use Rattle.rm_market.specs.Market.{wishes_of}
 use Rattle.rm_market.specs.Tree.{below, depth}
 use Rattle.rm_market.specs.declared.CertRow.{CertRow}
+use Rattle.rm_market.specs.declared.Finding.{Finding}
+use Rattle.rm_market.specs.declared.Finding.TheVariants.{Stable, OverCap, Unwanted, Blocks}
 use Rattle.rm_policy.specs.declared.Kind.{Kind}
 use Rattle.rm_policy.specs.declared.Kind.TheVariants.{Flexible, Steps}
 use Rattle.rm_policy.specs.declared.Ties.{Ties}
@@ -158,3 +160,21 @@ certificate_row c r =
 
 unfoldable pub certificate_text : CaseData → List CertRow → Text
 certificate_text c rows = csv_text (certificate_header ∷ map (certificate_row c) rows)
+
+-- ---- finding: one row
+
+-- the node or the contract that a finding names is one of the board
+abbrev pub IsFindingOf : Board → Finding → Type 0
+IsFindingOf b Stable = Unit {0}
+IsFindingOf b (OverCap k) = k < length b.nodes
+IsFindingOf b (Unwanted z) = z < contract_count b
+IsFindingOf b (Blocks x) = x < contract_count b
+
+abbrev pub finding_row : CaseData → Finding → List Text
+finding_row c Stable = codes "stable" ∷ []
+finding_row c (OverCap k) = codes "over" ∷ node_name c k ∷ []
+finding_row c (Unwanted z) = codes "unwanted" ∷ name_of_doctor c z ∷ name_of_hospital c z ∷ []
+finding_row c (Blocks x) = codes "blocks" ∷ name_of_doctor c x ∷ name_of_hospital c x ∷ []
+
+unfoldable pub finding_text : CaseData → Finding → Text
+finding_text c finding = csv_text (finding_row c finding ∷ [])

@@ -25,7 +25,7 @@ struct Printed {
 }
 
 // The name of the doctor of contract x.
-fn name_of_doctor(case: &Case, x: u32) -> &str
+pub(crate) fn name_of_doctor(case: &Case, x: u32) -> &str
     requires { x < contract_count (market case.now).board }
     ensures { result.now ≡ name_of_doctor case.entry.now x }
 {
@@ -33,7 +33,7 @@ fn name_of_doctor(case: &Case, x: u32) -> &str
 }
 
 // The name of the hospital of contract x.
-fn name_of_hospital(case: &Case, x: u32) -> &str
+pub(crate) fn name_of_hospital(case: &Case, x: u32) -> &str
     requires { x < contract_count (market case.now).board }
     ensures { result.now ≡ name_of_hospital case.entry.now x }
 {
@@ -81,7 +81,7 @@ fn print_change(cell: &mut String, change: Option<i64>) -> Result<(), NoMemory>
 }
 
 // Prints what a node is and its name, or nothing, in place of what the cell held.
-fn print_node(cell: &mut String, case: &Case, node: Option<u32>) -> Result<(), NoMemory>
+pub(crate) fn print_node(cell: &mut String, case: &Case, node: Option<u32>) -> Result<(), NoMemory>
     requires { IfSome node (λ k. k < length (market case.now).board.nodes) }
     ensures { OnOk result (string_bytes cell.new ≡ option_map_or (node_name case.now) node []) }
 {

@@ -4,6 +4,7 @@
 mod certificate;
 mod check;
 mod counts;
+mod finding;
 mod pair;
 mod placement;
 mod report;
@@ -11,6 +12,7 @@ mod writing;
 
 pub use certificate::certificate_text;
 pub use check::check_text;
+pub use finding::finding_text;
 pub use pair::pair_text;
 pub use placement::placement_text;
 pub use report::prefecture_text;

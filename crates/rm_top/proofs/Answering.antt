@@ -1,5 +1,5 @@
 -- From what there is to tell of a case to what there is to tell of a command.
-use Rattle.std.proofs.Common.{◌≡◌, ◌∙◌, ◌≤◌, ◌++◌, ℕ, List, Option, Some, None, Ok, Err, IfSome, inl, inr, refl, subst, arith}
+use Rattle.std.proofs.Common.{◌≡◌, ◌∙◌, ◌≤◌, ◌++◌, ℕ, List, Option, Some, None, Result, Ok, Err, IfSome, inl, inr, refl, subst, arith}
 use Rattle.std.proofs.lemmas.Bool.{ne_eqb}
 use Rattle.rm_base.specs.Text.{Text, Files}
 use Rattle.rm_base.specs.Checks.{first_of}
@@ -13,8 +13,10 @@ use Rattle.rm_case.specs.Folder.{folder_of, file_in}
 use Rattle.rm_case.specs.Loading.{Loads, LoadFails}
 use Rattle.rm_case.specs.declared.fault.LoadFault.{LoadFault}
 use Rattle.rm_case.specs.declared.fault.LoadFault.TheVariants as fault
-use Rattle.rm_top.specs.Answers.{IsAccepted}
+use Rattle.rm_top.specs.Answers.{IsAccepted, IsCaseText, IsRight}
 use Rattle.rm_top.specs.Command.{Command, folder_in, file_of, own_checks, own_file_in, own_refusal, own_rows, refusal_of, rows_checks, word_checks}
+use Rattle.rm_top.specs.declared.telling.Told.{Told}
+use Rattle.rm_top.specs.declared.command.Kind.{Kind}
 use Rattle.rm_top.specs.Telling.{AreWordsKnown, HasCaseText, HasFailedOwn, HasText, HasTextOn, LoadsRows, StopsOnCase, StopsWith}
 
 -- ---- of a loaded case
@@ -22,12 +24,12 @@ use Rattle.rm_top.specs.Telling.{AreWordsKnown, HasCaseText, HasFailedOwn, HasTe
 loaded : (fs : Files) (F : Text) (c : CaseData) → Loads (folder_of fs F) (Ok c) → market_of fs F ≡ Ok c
 loaded fs F c h = rw (h.0, h.1) refl
 
-pub text_found : (files : Option Files) (command : Command) (c : CaseData) (text : Text) → IfSome files (λ fs. Loads (folder_of fs (folder_in command)) (Ok c))
-    → HasTextOn files command c text → HasText files command text
-text_found None command c text loads has = (tt, tt)
-text_found (Some fs) command c text loads has =
+pub told_found : (files : Option Files) (command : Command) (c : CaseData) (told : Told) → IfSome files (λ fs. Loads (folder_of fs (folder_in command)) (Ok c))
+    → HasTextOn files command c told → HasText files command told
+told_found None command c told loads (rows, are, is) = ((c, rows, tt, is), tt)
+told_found (Some fs) command c told loads (rows, are, is) =
     let same = loaded fs (folder_in command) c loads in
-    ((c, same, has.0, has.1), rw same has.0)
+    ((c, rows, (same, are.0, are.1), is), rw same are.0)
 
 accepted : (files : Option Files) (command : Command) (c : CaseData) → IfSome files (λ fs. Loads (folder_of fs (folder_in command)) (Ok c)) → AreWordsKnown command c
     → IsAccepted files command
@@ -57,10 +59,10 @@ rows_decide fs command c rows words none are =
     file_decides fs command c words
     ∙ rw are (first-none (own_checks fs (own_file_in command)) (rows_checks command.kind c (own_rows fs command)) none)
 
-pub rows_told : (files : Option Files) (command : Command) (c : CaseData) (rows : List Row) (text : Text) → AreWordsKnown command c → LoadsRows files command (Ok rows)
-    → HasCaseText command c rows text → HasTextOn files command c text
-rows_told None command c rows text words told has = tt
-rows_told (Some fs) command c rows text words told has = (rows_decide fs command c rows words told.0 told.1 ∙ has.0, rw told.1 at has.1)
+pub rows_told : (files : Option Files) (command : Command) (c : CaseData) (rows : List Row) (told : Told) → AreWordsKnown command c → LoadsRows files command (Ok rows)
+    → HasCaseText command c rows told → HasTextOn files command c told
+rows_told None command c rows told words loads (none, is) = (rows, tt, is)
+rows_told (Some fs) command c rows told words loads (none, is) = (rows, (rows_decide fs command c rows words loads.0 loads.1 ∙ none, loads.1), is)
 
 pub rows_refused : (files : Option Files) (command : Command) (c : CaseData) (rows : List Row) (r : Refusal) → AreWordsKnown command c → LoadsRows files command (Ok rows)
     → first_of (rows_checks command.kind c rows) ≡ Some r → IfSome files (λ fs. own_refusal fs command c ≡ Some r)
@@ -78,6 +80,20 @@ pub file_stops : (files : Option Files) (before after : ℕ) (blame : Option (Op
 file_stops files before after blame command c (fault.Refused r) words told failed = file_refused files command c r words told
 file_stops files before after blame command c (fault.Read file) words told failed = (failed, words)
 file_stops files before after blame command c fault.NoMemory words told failed = tt
+
+-- ---- of a text that objects to nothing
+
+pub unopposed : (command : Command) (c : CaseData) (rows : List Row) (kind : Kind) (text : Text) → command.kind ≡ kind → first_of (rows_checks kind c rows) ≡ None
+    → IsCaseText kind command.words c rows text → IsRight kind c rows
+    → (first_of (rows_checks command.kind c rows) ≡ None) × (IsCaseText command.kind command.words c rows text × IsRight command.kind c rows)
+unopposed command c rows kind text is none told right = rw is (none, (told, right))
+
+same_ok : {A E : Type 0} {r : Result A E} {a b : A} → r ≡ Ok a → r ≡ Ok b → a ≡ b
+same_ok e f = cc
+
+-- what is known of one answer holds of the other
+pub of_same : {A E N : Type 0} {r : Result A E} {a b : A} (P : A → Type 0) → r ≡ Ok a → r ≡ Ok b → N × P a → P b
+of_same P e f (none, p) = subst P (same_ok e f) p
 
 -- ---- of a fault
 

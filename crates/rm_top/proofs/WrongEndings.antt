@@ -1,5 +1,5 @@
 -- Wrong texts and wrong endings, and what refuses them.
-use Rattle.std.proofs.Common.{◌≡◌, ◌≢◌, ℕ, ◌+◌, ◌-◌, List, [], ◌++◌, length, take, Option, None, Some, Result, Ok, Err, IsSome, is_some, refl, sym, ap, ◌∙◌, ⊎_elim, arith, true≢false}
+use Rattle.std.proofs.Common.{◌≡◌, ◌≢◌, ℕ, ◌+◌, ◌-◌, List, [], ◌++◌, length, take, Option, None, Some, Result, Ok, Err, IsSome, is_some, inl, refl, sym, ap, ◌∙◌, ⊎_elim, arith, true≢false}
 use Rattle.rm_base.specs.Text.{Text, Files}
 use Rattle.rm_base.specs.declared.Refusal.{Refusal}
 use Rattle.rm_market.specs.Certificate.{certificate}
@@ -47,11 +47,11 @@ accepted_or_refused e = cc
 
 text_of_refused : (files : Files) (command : Command) (r : Refusal) (before after : Option Text) → market_of files (folder_in command) ≡ Err r
     → ¬ WroteText (Some files) (Some command) before after
-text_of_refused files command r before after is wrote = accepted_or_refused (sym wrote.is_text.1 ∙ is)
+text_of_refused files command r before after is wrote = accepted_or_refused (sym wrote.is_text.2.0 ∙ is)
 
 part_of_refused : (files : Files) (command : Command) (r : Refusal) (before after : Option Text) → market_of files (folder_in command) ≡ Err r
     → ¬ WrotePart (Some files) (Some command) before after
-part_of_refused files command r before after is wrote = accepted_or_refused (sym wrote.is_text.1 ∙ is)
+part_of_refused files command r before after is wrote = accepted_or_refused (sym wrote.is_text.2.0 ∙ is)
 
 -- of `check` all counts of the case are gained, and where the put failed, a front of them
 abbrev check_of : List Text → Command
@@ -63,13 +63,13 @@ same_counts e f = cc
 all_counts : (files : Files) (words : List Text) (c : CaseData) (before after : Text) → market_of files (folder_in (check_of words)) ≡ Ok c
     → WroteText (Some files) (Some (check_of words)) (Some before) (Some after) → after ≡ before ++ check_text c
 all_counts files words c before after is wrote =
-    wrote.gained ∙ ap (λ (t : Text). before ++ t) (wrote.is_text.3 ∙ same_counts wrote.is_text.1 is)
+    wrote.gained ∙ ap (λ (t : Text). before ++ t) (wrote.is_text.3 ∙ same_counts wrote.is_text.2.0 is)
 
 front_of_counts : (files : Files) (words : List Text) (c : CaseData) (before after : Text) → market_of files (folder_in (check_of words)) ≡ Ok c
     → WrotePart (Some files) (Some (check_of words)) (Some before) (Some after) → (k : ℕ) × (after ≡ before ++ take k (check_text c))
 front_of_counts files words c before after is wrote =
     let k = wrote.gained.0 in
-    (k, wrote.gained.2 ∙ ap (λ (t : Text). before ++ take k t) (wrote.is_text.3 ∙ same_counts wrote.is_text.1 is))
+    (k, wrote.gained.2 ∙ ap (λ (t : Text). before ++ take k t) (wrote.is_text.3 ∙ same_counts wrote.is_text.2.0 is))
 
 -- ---- what `err` gains
 
@@ -87,7 +87,7 @@ untold_want : (files : Option Files) (blame : Option (Option Text)) (command : O
 untold_want files blame command says = none_or_some 9 refl (says.memory refl)
 
 told_too_much : (files : Option Files) (blame : Option (Option Text)) (command : Option Command) → ¬ IsErrorText files blame command written usage_text
-told_too_much files blame command says = none_or_some (length usage_text - 1) refl (sym (says.nothing refl))
+told_too_much files blame command says = none_or_some (length usage_text - 1) refl (sym (says.nothing (inl refl)))
 
 -- and no line is left out where the faults didn't rise
 left_out : (before after : ℕ) → ¬ HasRisen before after → ¬ Reports before after (Some []) (Some []) usage_text
@@ -124,4 +124,4 @@ let_through files command r status is answered other says = other (says.1 (ap (�
 
 -- what is given up without a fault
 given_up : (files : Files) (command : Command) → refusal_of files command ≡ None → ¬ IsComplete (Some files) (Some command) write_failed ⊥ ⊥
-given_up files command none says = ⊎_elim (λ e. omega (arith, e)) (λ e. omega (arith, e)) (says (λ f. f) (λ f. f) none)
+given_up files command none says = ⊎_elim (λ e. ⊎_elim (λ f. omega (arith, f)) (λ f. omega (arith, f)) e) (λ e. omega (arith, e)) (says (λ f. f) (λ f. f) none)

@@ -5,15 +5,18 @@ use Rattle.rm_base.specs.Text.{Text, Files}
 use Rattle.rm_base.specs.declared.Refusal.{Refusal}
 use Rattle.rm_base.specs.declared.codes.TheConstants.{OWN_FILE}
 use Rattle.rm_market.specs.Certificate.{certificate}
-use Rattle.rm_market.specs.Market.{Best, places_of, replaced}
+use Rattle.rm_market.specs.Market.{Best, IsStableIn, places_of, replaced, set_of_places}
+use Rattle.rm_market.specs.declared.Finding.{Finding}
 use Rattle.rm_outside.specs.Outside.{HasRisen, Gains, GainsPart}
 use Rattle.rm_table.specs.Rows.{Row}
 use Rattle.rm_case.specs.Case.{CaseData, market_of, market}
 use Rattle.rm_case.specs.Choices.{choices_of}
 use Rattle.rm_case.specs.Own.{doctor_in, offers_of}
+use Rattle.rm_audit.specs.Placement.{placement_in}
 use Rattle.rm_laws.specs.WhatIf.{AreBothPlacements}
 use Rattle.rm_report.specs.Report.{prefecture_text}
-use Rattle.rm_report.specs.Texts.{placement_text, pair_text, check_text, certificate_text}
+use Rattle.rm_report.specs.Texts.{placement_text, pair_text, check_text, certificate_text, finding_text}
+use Rattle.rm_verdict_laws.specs.Findings.{IsFinding}
 use Rattle.rm_top.specs.Command.{Command, usage_text, doctor_word, folder_in, file_of, own_refusal, own_rows, refusal_of, word_checks}
 use Rattle.rm_top.specs.Headline.{IsPlaced}
 use Rattle.rm_top.specs.Texts.{refusal_text, read_fault_text, write_fault_text, no_memory_text}
@@ -24,6 +27,9 @@ use Rattle.rm_top.specs.declared.command.Kind.TheVariants as kinds
 
 abbrev pub written : ℕ
 written = 0
+
+abbrev pub objected : ℕ
+objected = 1
 
 abbrev pub bad_words : ℕ
 bad_words = 2
@@ -39,6 +45,10 @@ write_failed = 5
 
 abbrev pub no_memory : ℕ
 no_memory = 6
+
+-- the text was written; with status 1 it objects to something
+abbrev pub IsWritten : ℕ → Type 0
+IsWritten status = (status ≡ written) ⊎ (status ≡ objected)
 
 -- the needed fetches answered, and memory was found
 abbrev pub HasAnswered : ℕ → Type 0
@@ -68,21 +78,37 @@ IsPairText c d list text =
 abbrev pub IsDoctorsText : CaseData → Text → List ℕ → Text → Type 0
 IsDoctorsText c word list text = (d : ℕ) × (doctor_in c word ≡ Some d) × IsPairText c d list text
 
+-- the set of the places that a file of a placement tells
+abbrev pub placed_in : CaseData → List Row → List ℕ
+placed_in c rows = set_of_places (market c) (placement_in c rows)
+
+-- the text of the finding on a set of placed contracts
+abbrev pub IsFindingText : CaseData → List ℕ → Text → Type 0
+IsFindingText c S text = (finding : Finding) × IsFinding (market c) S finding × (text ≡ finding_text c finding)
+
 -- the text of a command with these words on the case of its folder and the rows of its own file
 abbrev pub IsCaseText : Kind → List Text → CaseData → List Row → Text → Type 0
 IsCaseText kinds.Place words c rows text = IsPlacementText c text
 IsCaseText kinds.Check words c rows text = text ≡ check_text c
 IsCaseText kinds.Report words c rows text = IsReportText c text
 IsCaseText kinds.Choose words c rows text = IsChoiceText c (offers_of c rows) text
+IsCaseText kinds.Audit words c rows text = IsFindingText c (placed_in c rows) text
 IsCaseText kinds.WhatIf words c rows text = IsDoctorsText c (doctor_word words) (choices_of c rows) text
 
 -- ---- of every command
 
--- its text where the files are told: its folder is accepted, and so are its words and its own file
+-- this is the case of its folder, and these are the rows of its own file, where the files are told: neither is refused, nor are its words
+abbrev pub AreGiven : Option Files → Command → CaseData → List Row → Type 0
+AreGiven files command c rows =
+    IfSome files (λ fs. (market_of fs (folder_in command) ≡ Ok c) × (own_refusal fs command c ≡ None) × (rows ≡ own_rows fs command))
+
+-- so it is with the case and the rows that a command is given
+abbrev pub OfGiven : Option Files → Command → (CaseData → List Row → Type 0) → Type 0
+OfGiven files command P = (c : CaseData) × (rows : List Row) × AreGiven files command c rows × P c rows
+
+-- its text
 abbrev pub IsTextOf : Option Files → Command → Text → Type 0
-IsTextOf files command text =
-    IfSome files (λ fs. (c : CaseData) × (market_of fs (folder_in command) ≡ Ok c) × (own_refusal fs command c ≡ None)
-    × IsCaseText command.kind command.words c (own_rows fs command) text)
+IsTextOf files command text = OfGiven files command (λ c rows. IsCaseText command.kind command.words c rows text)
 
 -- ---- what `out` gained: some text of the command, or a front of it
 
@@ -95,6 +121,24 @@ pub record WrotePart (files : Option Files) (command : Option Command) (before a
   pub text : Text
   pub is_text : IfSome command (λ c. IsTextOf files c text)
   pub gained : GainsPart before after text
+
+-- ---- what is objected to
+
+-- there is nothing to object to: the placement that `audit` is given is stable. The other commands judge nothing
+abbrev pub IsRight : Kind → CaseData → List Row → Type 0
+IsRight kinds.Place c rows = Unit {0}
+IsRight kinds.Check c rows = Unit {0}
+IsRight kinds.Report c rows = Unit {0}
+IsRight kinds.Choose c rows = Unit {0}
+IsRight kinds.Audit c rows = IsStableIn (market c) (placed_in c rows)
+IsRight kinds.WhatIf c rows = Unit {0}
+
+-- where the text was written, the status is 0 exactly where there is nothing to object to, and 1 exactly where there is something; of what no
+-- command judges it is never 1
+abbrev pub IsObjectedWhere : Option Files → Option Command → ℕ → Type 0
+IsObjectedWhere files None status = status ≢ objected
+IsObjectedWhere files (Some command) status =
+    (status ≡ written → OfGiven files command (IsRight command.kind)) × (status ≡ objected → OfGiven files command (λ c rows. ¬ IsRight command.kind c rows))
 
 -- ---- the causes
 
@@ -133,7 +177,7 @@ IsReadFaultText files blame (Some command) text = (file : ℕ) × FailedOn files
 
 -- the text on `err` for each status; nothing where the text was written
 pub record IsErrorText (files : Option Files) (blame : Option (Option Text)) (command : Option Command) (status : ℕ) (text : Text) : Type 0 where
-  pub nothing : status ≡ written → text ≡ []
+  pub nothing : IsWritten status → text ≡ []
   pub usage : status ≡ bad_words → text ≡ usage_text
   pub refusal : status ≡ refused → IsRefusalText files command text
   pub read_fault : status ≡ read_failed → IsReadFaultText files blame command text
@@ -142,8 +186,8 @@ pub record IsErrorText (files : Option Files) (blame : Option (Option Text)) (co
 
 -- ---- completeness
 
--- without faults, a command that nothing refuses is answered, or memory is wanting
+-- without faults, a command that nothing refuses has its text written, or memory is wanting
 abbrev pub IsComplete : Option Files → Option Command → ℕ → Type 0 → Type 0 → Type 0
 IsComplete files None status shelf_failed out_failed = Unit {0}
 IsComplete files (Some command) status shelf_failed out_failed =
-    ¬ shelf_failed → ¬ out_failed → IfSome files (λ fs. refusal_of fs command ≡ None → (status ≡ written) ⊎ (status ≡ no_memory))
+    ¬ shelf_failed → ¬ out_failed → IfSome files (λ fs. refusal_of fs command ≡ None → IsWritten status ⊎ (status ≡ no_memory))

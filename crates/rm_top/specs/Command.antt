@@ -12,12 +12,13 @@ use Rattle.rm_case.specs.Folder.{file_checks, file_in, rows_in}
 use Rattle.rm_case.specs.Case.{CaseData, market_of}
 use Rattle.rm_case.specs.Choices.{choice_table_checks}
 use Rattle.rm_case.specs.Own.{doctor_in, offer_table_checks}
+use Rattle.rm_audit.specs.Placement.{placement_checks}
 use Rattle.rm_top.specs.declared.command.Kind.{Kind}
 use Rattle.rm_top.specs.declared.command.Kind.TheVariants as kinds
 use Rattle.rm_top.specs.declared.command.TheConstants.{DOCTOR_WORD, WORDS}
 
 abbrev pub usage_text : Text
-usage_text = codes "usage: rm_match place F | check F | report F | choose F OFFERS | whatif F DOCTOR LIST\n"
+usage_text = codes "usage: rm_match place F | check F | report F | choose F OFFERS | audit F PLACEMENT | whatif F DOCTOR LIST\n"
 
 -- what a first word asks for, with so many words in all
 abbrev pub kind_of : Text → ℕ → Option Kind
@@ -26,6 +27,7 @@ kind_of word count =
     else if (count == 2) && bytes_eq word (codes "check") then Some kinds.Check
     else if (count == 2) && bytes_eq word (codes "report") then Some kinds.Report
     else if (count == 3) && bytes_eq word (codes "choose") then Some kinds.Choose
+    else if (count == 3) && bytes_eq word (codes "audit") then Some kinds.Audit
     else if (count == 4) && bytes_eq word (codes "whatif") then Some kinds.WhatIf
     else None
 
@@ -35,6 +37,7 @@ own_at kinds.Place = None
 own_at kinds.Check = None
 own_at kinds.Report = None
 own_at kinds.Choose = Some 2
+own_at kinds.Audit = Some 2
 own_at kinds.WhatIf = Some 3
 
 -- a word, counted from 0; the empty text past the last
@@ -51,6 +54,7 @@ word_checks kinds.Place c words = []
 word_checks kinds.Check c words = []
 word_checks kinds.Report c words = []
 word_checks kinds.Choose c words = []
+word_checks kinds.Audit c words = []
 word_checks kinds.WhatIf c words = check (is_none (doctor_in c (doctor_word words))) (refuse UNKNOWN_DOCTOR WORDS DOCTOR_WORD 0) ∷ []
 
 -- the checks of the rows of a command's own file; a command without one has none
@@ -59,6 +63,7 @@ rows_checks kinds.Place c rows = []
 rows_checks kinds.Check c rows = []
 rows_checks kinds.Report c rows = []
 rows_checks kinds.Choose c rows = offer_table_checks c rows
+rows_checks kinds.Audit c rows = placement_checks c rows
 rows_checks kinds.WhatIf c rows = choice_table_checks c rows
 
 -- ---- of every command

@@ -1,20 +1,22 @@
 -- What there is to tell of a command: its text, or why there is none.
-use Rattle.std.specs.Prelude.{◌≡◌, ℕ, List, Option, None, Some, Result, IfSome, string_bytes}
+use Rattle.std.specs.Prelude.{◌≡◌, ℕ, Bool, true, false, List, Option, None, Some, Result, IfSome, string_bytes}
 use Rattle.rm_base.specs.Checks.{first_of}
 use Rattle.rm_base.specs.Text.{Text, Files}
 use Rattle.rm_base.specs.declared.Refusal.{Refusal}
 use Rattle.rm_base.specs.declared.codes.TheConstants.{OWN_FILE}
 use Rattle.rm_outside.specs.Outside.{HasRisen}
 use Rattle.rm_table.specs.Rows.{Row}
-use Rattle.rm_case.specs.Case.{CaseData}
+use Rattle.rm_market.specs.Market.{IsStableIn}
+use Rattle.rm_case.specs.Case.{CaseData, market}
 use Rattle.rm_case.specs.Loading.{LoadsData, HasFailedAt}
 use Rattle.rm_case.specs.declared.fault.LoadFault.{LoadFault}
 use Rattle.rm_case.specs.declared.fault.LoadFault.TheVariants as fault
-use Rattle.rm_top.specs.Answers.{FailedOn, IsCaseText, IsTextOf}
+use Rattle.rm_top.specs.Answers.{FailedOn, IsCaseText, IsFindingText, IsRight, OfGiven}
 use Rattle.rm_top.specs.Command.{Command, own_checks, own_file_in, own_refusal, own_rows, refusal_of, rows_checks, word_checks}
 use Rattle.rm_top.specs.Texts.{refusal_text, read_fault_text}
 use Rattle.rm_top.specs.declared.ending.Ending.{Ending}
 use Rattle.rm_top.specs.declared.ending.Ending.TheVariants as end
+use Rattle.rm_top.specs.declared.telling.Told.{Told}
 
 -- ---- of a command on the case of its folder
 
@@ -29,13 +31,27 @@ HasFailedOwn before after blame command (fault.Read file) = (name : Text) × (fi
     × HasFailedAt before after blame name
 HasFailedOwn before after blame command fault.NoMemory = Unit {0}
 
--- nothing of the rows is refused, and this is the text
-abbrev pub HasCaseText : Command → CaseData → List Row → Text → Type 0
-HasCaseText command c rows text = (first_of (rows_checks command.kind c rows) ≡ None) × IsCaseText command.kind command.words c rows text
+-- there is an objection exactly where this isn't right
+abbrev pub Judges : Bool → Type 0 → Type 0
+Judges true right = ¬ right
+Judges false right = right
 
--- nothing of a command's words and of its own file is refused, where the files are told, and this is the text
-abbrev pub HasTextOn : Option Files → Command → CaseData → Text → Type 0
-HasTextOn files command c text = IfSome files (λ fs. (own_refusal fs command c ≡ None) × IsCaseText command.kind command.words c (own_rows fs command) text)
+-- the text, and whether it objects to something
+abbrev pub IsTold : Command → CaseData → List Row → Told → Type 0
+IsTold command c rows told = IsCaseText command.kind command.words c rows told.text.items × Judges told.objects (IsRight command.kind c rows)
+
+-- the same of the finding on a set of placed contracts
+abbrev pub IsFindingTold : CaseData → List ℕ → Told → Type 0
+IsFindingTold c S told = IsFindingText c S told.text.items × Judges told.objects (IsStableIn (market c) S)
+
+-- nothing of the rows is refused, and this is told
+abbrev pub HasCaseText : Command → CaseData → List Row → Told → Type 0
+HasCaseText command c rows told = (first_of (rows_checks command.kind c rows) ≡ None) × IsTold command c rows told
+
+-- nothing of a command's words and of its own file is refused, where the files are told, and this is told
+abbrev pub HasTextOn : Option Files → Command → CaseData → Told → Type 0
+HasTextOn files command c told =
+    (rows : List Row) × IfSome files (λ fs. (own_refusal fs command c ≡ None) × (rows ≡ own_rows fs command)) × IsTold command c rows told
 
 -- nothing of a command's words is refused
 abbrev pub AreWordsKnown : Command → CaseData → Type 0
@@ -53,8 +69,9 @@ StopsOnCase files before after blame command c fault.NoMemory = Unit {0}
 abbrev pub HasNoRefusal : Option Files → Command → Type 0
 HasNoRefusal files c = IfSome files (λ fs. refusal_of fs c ≡ None)
 
-abbrev pub HasText : Option Files → Command → Text → Type 0
-HasText files command text = IsTextOf files command text × HasNoRefusal files command
+-- what is told of the case and the rows that it is given; nothing is refused
+abbrev pub HasText : Option Files → Command → Told → Type 0
+HasText files command told = OfGiven files command (λ c rows. IsTold command c rows told) × HasNoRefusal files command
 
 abbrev pub StopsWith : Option Files → ℕ → ℕ → Option (Option Text) → Command → LoadFault → Type 0
 StopsWith files before after blame command (fault.Refused r) = IfSome files (λ fs. refusal_of fs command ≡ Some r)
@@ -64,6 +81,7 @@ StopsWith files before after blame command fault.NoMemory = Unit {0}
 -- an ending that says why there is no text; memory may be wanting for that
 abbrev pub SaysWhy : LoadFault → Ending → Type 0
 SaysWhy f end.Written = ⊥
+SaysWhy f end.Objected = ⊥
 SaysWhy f end.BadWords = ⊥
 SaysWhy f (end.Refused text) = (r : Refusal) × (f ≡ fault.Refused r) × (string_bytes text ≡ refusal_text r)
 SaysWhy f (end.ReadFailed text) = (file : ℕ) × (f ≡ fault.Read file) × (string_bytes text ≡ read_fault_text file)

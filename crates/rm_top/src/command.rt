@@ -7,7 +7,7 @@ use std::marker::Model;
 
 /// The usage line.
 pub const USAGE: &str =
-    "usage: rm_match place F | check F | report F | choose F OFFERS | whatif F DOCTOR LIST\n";
+    "usage: rm_match place F | check F | report F | choose F OFFERS | audit F PLACEMENT | whatif F DOCTOR LIST\n";
 
 /// The number that a refusal has in place of a file's where it speaks of a word.
 pub const WORDS: u8 = 0;
@@ -26,6 +26,8 @@ pub enum Kind {
     Report,
     /// Choose the best of the contracts in a file of offers.
     Choose,
+    /// Find whether the placement in a file is stable.
+    Audit,
     /// Place the doctors, once as they are and once with another list of one of them.
     WhatIf,
 }
@@ -39,6 +41,7 @@ fn kind_of(word: &str, count: usize) -> Option<Kind>
         2 if word == "check" => Some(Kind::Check),
         2 if word == "report" => Some(Kind::Report),
         3 if word == "choose" => Some(Kind::Choose),
+        3 if word == "audit" => Some(Kind::Audit),
         4 if word == "whatif" => Some(Kind::WhatIf),
         _ => None,
     }
@@ -51,6 +54,7 @@ impl Kind {
     {
         match self {
             Kind::Choose => Some(2),
+            Kind::Audit => Some(2),
             Kind::WhatIf => Some(3),
             _ => None,
         }

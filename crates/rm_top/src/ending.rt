@@ -2,7 +2,7 @@
 
 ghost use Rattle.std.specs.Prelude.{◌≡◌};
 ghost use Rattle.rm_top.specs.Answers.{Reports};
-ghost use Rattle.rm_top.specs.Ending.{status_of, text_of};
+ghost use Rattle.rm_top.specs.Ending.{status_of, text_of, written_with};
 ghost use Rattle.rm_top.specs.Telling.{SaysWhy};
 
 use crate::command::USAGE;
@@ -15,6 +15,7 @@ use std::alloc::Global;
 #[derive(Debug, Drop)]
 pub enum Ending {
     Written,
+    Objected,
     BadWords,
     Refused(String),
     ReadFailed(String),
@@ -40,12 +41,24 @@ impl Ending {
         }
     }
 
+    /// The ending of a command whose text was written, by whether it objects to something.
+    pub fn of_written(objects: bool) -> Ending
+        ensures { result ≡ written_with objects }
+    {
+        if objects {
+            Ending::Objected
+        } else {
+            Ending::Written
+        }
+    }
+
     /// The status.
     pub fn status(&self) -> u8
         ensures { result ≡ status_of self.now }
     {
         match self {
             Ending::Written => 0,
+            Ending::Objected => 1,
             Ending::BadWords => 2,
             Ending::Refused(_) => 3,
             Ending::ReadFailed(_) => 4,
@@ -60,6 +73,7 @@ impl Ending {
     {
         match self {
             Ending::Written => "",
+            Ending::Objected => "",
             Ending::BadWords => USAGE,
             Ending::Refused(text) => text.as_str(),
             Ending::ReadFailed(text) => text.as_str(),

@@ -4,10 +4,11 @@
 ghost use Rattle.std.specs.Prelude.{◌≡◌, ◌≢◌, ◌≤◌, ◌↔◌, map, Some, None, string_bytes};
 ghost use Rattle.rm_base.specs.Text.{Text};
 ghost use Rattle.rm_outside.specs.Outside.{HasRisen};
-ghost use Rattle.rm_top.specs.Answers.{written, bad_words, read_failed, write_failed, no_memory, WroteText, WrotePart, IsRefusedWhere, Reports, IsErrorText, IsComplete};
+ghost use Rattle.rm_top.specs.Answers.{written, objected, bad_words, read_failed, write_failed, no_memory, IsWritten, WroteText, WrotePart, IsObjectedWhere, IsRefusedWhere, Reports, IsErrorText, IsComplete};
 ghost use Rattle.rm_top.specs.Command.{command_of};
 ghost use Rattle.rm_top.specs.Ending.{Ends, EndsCommand};
 
+mod auditing;
 mod choosing;
 mod command;
 mod ending;
@@ -49,8 +50,8 @@ fn answer<S: Shelf, O: Sink>(
     ensures files { S.files shelf.new ≡ S.files shelf.old }
 {
     match text_of(alloc, command, shelf) {
-        Ok(text) => match put_text(out, &text) {
-            Ok(()) => Ending::Written,
+        Ok(told) => match put_text(out, &told.text) {
+            Ok(()) => Ending::of_written(told.objects),
             Err(_) => Ending::WriteFailed,
         },
         Err(fault) => Ending::without_text(alloc, fault),
@@ -78,7 +79,7 @@ fn perform<S: Shelf, O: Sink>(alloc: Global, words: &[String], shelf: &mut S, ou
 }
 
 /// Does all that the program does with these words, which stand after its name, and answers its status: 0 where the text was
-/// written, 2 where the words spell no command, 3 where the folder, a word or the command's own file is refused, 4 where the shelf
+/// written, 1 where it was written and objects to something, as the finding of `audit` does on a placement that isn't stable, 2 where the words spell no command, 3 where the folder, a word or the command's own file is refused, 4 where the shelf
 /// failed, 5 where `out` failed, and 6 for want of memory. What `err` gains says which.
 pub fn run<S: Shelf, O: Sink, E: Sink>(
     alloc: Global,
@@ -87,10 +88,11 @@ pub fn run<S: Shelf, O: Sink, E: Sink>(
     out: &mut O,
     err: &mut E,
 ) -> u8
-    ensures status { (result ≤ no_memory) × (result ≢ 1) }
+    ensures status { result ≤ no_memory }
 
     // Each status has its cause.
     ensures words { (result ≡ bad_words) ↔ (command_of (map string_bytes words.now) ≡ None) }
+    ensures objected { IsObjectedWhere (S.files shelf.old) (command_of (map string_bytes words.now)) result }
     ensures refused { IsRefusedWhere (S.files shelf.old) (command_of (map string_bytes words.now)) result }
     ensures read { result ≡ read_failed → HasRisen (S.faults shelf.old) (S.faults shelf.new) }
     ensures write { result ≡ write_failed → HasRisen (O.faults out.old) (O.faults out.new) }
@@ -98,9 +100,9 @@ pub fn run<S: Shelf, O: Sink, E: Sink>(
         (HasRisen (S.faults shelf.old) (S.faults shelf.new)) (HasRisen (O.faults out.old) (O.faults out.new)) }
 
     // What is written.
-    ensures text { result ≡ written → WroteText (S.files shelf.old) (command_of (map string_bytes words.now)) (O.written out.old) (O.written out.new) }
+    ensures text { IsWritten result → WroteText (S.files shelf.old) (command_of (map string_bytes words.now)) (O.written out.old) (O.written out.new) }
     ensures part { result ≡ write_failed → WrotePart (S.files shelf.old) (command_of (map string_bytes words.now)) (O.written out.old) (O.written out.new) }
-    ensures unchanged { result ≢ written → result ≢ write_failed → O.written out.new ≡ O.written out.old }
+    ensures unchanged { ¬ IsWritten result → result ≢ write_failed → O.written out.new ≡ O.written out.old }
     ensures told { (text : Text) × IsErrorText (S.files shelf.old) (S.blame shelf.new) (command_of (map string_bytes words.now)) result text
         × Reports (E.faults err.old) (E.faults err.new) (E.written err.old) (E.written err.new) text }
     ensures files { S.files shelf.new ≡ S.files shelf.old }

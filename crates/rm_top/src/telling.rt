@@ -8,6 +8,7 @@ ghost use Rattle.rm_top.specs.Command.{rows_checks, word_checks};
 ghost use Rattle.rm_top.specs.Telling.{AreWordsKnown, HasCaseText, HasFailedOwn, HasText, HasTextOn, LoadsRows, StopsOnCase, StopsWith};
 
 use crate::NoMemory;
+use crate::auditing::audit_told;
 use crate::choosing::choose_text;
 use crate::command::{Command, DOCTOR_WORD, Kind, WORDS};
 use crate::prefectures::report_text;
@@ -19,6 +20,13 @@ use rm_outside::Shelf;
 use rm_report::{check_text, placement_text};
 use rm_table::Table;
 use std::alloc::Global;
+
+/// What a command tells: its text, and whether the text objects to something that the command was given.
+#[derive(Drop)]
+pub struct Told {
+    pub text: Vec<u8>,
+    pub objects: bool,
+}
 
 // The text of the placement of a case.
 fn place_text(alloc: Global, case: &Case) -> Result<Vec<u8>, NoMemory>
@@ -41,26 +49,25 @@ fn refused_word(command: &Command<'_>, case: &Case) -> Option<Refusal>
     }
 }
 
-// The text of what a command does on the case of its folder and the table of its own file.
-fn text_on(
-    alloc: Global,
-    command: &Command<'_>,
-    case: &Case,
-    own: &Table,
-) -> Result<Vec<u8>, OwnFault>
+// What a command tells on the case of its folder and the table of its own file.
+fn text_on(alloc: Global, command: &Command<'_>, case: &Case, own: &Table) -> Result<Told, OwnFault>
     requires { AreWordsKnown command.now case.now }
-    ensures text { IfOk result (λ text. HasCaseText command.now case.now own.now text.items) }
+    ensures told { IfOk result (λ told. HasCaseText command.now case.now own.now told) }
     ensures stops { IfErr result (Stops (first_of (rows_checks command.now.kind case.now own.now))) }
 {
     let made = match command.kind() {
         Kind::Place => place_text(alloc, case),
         Kind::Check => check_text(alloc, case),
         Kind::Report => report_text(alloc, case),
-        Kind::Choose => return choose_text(alloc, case, own),
-        Kind::WhatIf => return whatif_text(alloc, case, command.doctor(), own),
+        Kind::Choose => Ok(choose_text(alloc, case, own)?),
+        Kind::Audit => return audit_told(alloc, case, own),
+        Kind::WhatIf => Ok(whatif_text(alloc, case, command.doctor(), own)?),
     };
     match made {
-        Ok(text) => Ok(text),
+        Ok(text) => Ok(Told {
+            text,
+            objects: false,
+        }),
         Err(_) => Err(OwnFault::NoMemory),
     }
 }
@@ -85,14 +92,14 @@ fn own_table<S: Shelf>(
     }
 }
 
-// The text of a command on the case of its folder, or why there is none.
+// What a command tells on the case of its folder, or why it tells nothing.
 fn text_after<S: Shelf>(
     alloc: Global,
     command: &Command<'_>,
     case: &Case,
     shelf: &mut S,
-) -> Result<Vec<u8>, LoadFault>
-    ensures text { IfOk result (λ text. HasTextOn (S.files shelf.old) command.now case.now text.items) }
+) -> Result<Told, LoadFault>
+    ensures told { IfOk result (λ told. HasTextOn (S.files shelf.old) command.now case.now told) }
     ensures stops { IfErr result (StopsOnCase (S.files shelf.old) (S.faults shelf.old) (S.faults shelf.new) (S.blame shelf.new) command.now case.now) }
     ensures files { S.files shelf.new ≡ S.files shelf.old }
     ensures later { S.faults shelf.old ≤ S.faults shelf.new }
@@ -105,20 +112,20 @@ fn text_after<S: Shelf>(
         Err(fault) => return Err(fault),
     };
     match text_on(alloc, command, case, &own) {
-        Ok(text) => Ok(text),
+        Ok(told) => Ok(told),
         Err(OwnFault::Refused(refusal)) => Err(LoadFault::Refused(refusal)),
         Err(OwnFault::NoMemory) => Err(LoadFault::NoMemory),
     }
 }
 
-/// The text of a command, or why there is none: the first refusal of its folder, then of its words and of its own file, a file that
+/// What a command tells, or why it tells nothing: the first refusal of its folder, then of its words and of its own file, a file that
 /// the shelf failed at, or want of memory.
 pub fn text_of<S: Shelf>(
     alloc: Global,
     command: &Command<'_>,
     shelf: &mut S,
-) -> Result<Vec<u8>, LoadFault>
-    ensures text { IfOk result (λ text. HasText (S.files shelf.old) command.now text.items) }
+) -> Result<Told, LoadFault>
+    ensures told { IfOk result (λ told. HasText (S.files shelf.old) command.now told) }
     ensures stops { IfErr result (StopsWith (S.files shelf.old) (S.faults shelf.old) (S.faults shelf.new) (S.blame shelf.new) command.now) }
     ensures files { S.files shelf.new ≡ S.files shelf.old }
 {

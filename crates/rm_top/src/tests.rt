@@ -88,6 +88,16 @@ const FULL: Row<'static> = Row {
     ..CHOSEN
 };
 
+const AUDITED: Row<'static> = Row {
+    name: "a placement where a doctor and a hospital would rather have each other",
+    words: &["audit", "F", "O"],
+    own: Some(b"doctor,hospital\nA,H2\nB,\n"),
+    fetches: &[6],
+    status: 1,
+    out: b"blocks,B,H1\n",
+    ..FLEXIBLE
+};
+
 const REPLACED: Row<'static> = Row {
     name: "with his first choice alone a doctor has no place, and another has his",
     words: &["whatif", "F", "A", "O"],
@@ -117,12 +127,18 @@ const REFUSED_LIST: Row<'static> = Row {
     ..REFUSED
 };
 
+const REFUSED_PLACEMENT: Row<'static> = Row {
+    name: "the placement to audit is missing",
+    words: &["audit", "F", "O"],
+    ..REFUSED_LIST
+};
+
 const NO_COMMAND: Row<'static> = Row {
     name: "no words",
     words: &[],
     fetches: &[1],
     status: 2,
-    err: b"usage: rm_match place F | check F | report F | choose F OFFERS | whatif F DOCTOR LIST\n",
+    err: b"usage: rm_match place F | check F | report F | choose F OFFERS | audit F PLACEMENT | whatif F DOCTOR LIST\n",
     ..REFUSED
 };
 
@@ -132,6 +148,24 @@ const UNREAD: Row<'static> = Row {
     status: 4,
     err: b"read fault 1\n",
     ..REFUSED
+};
+
+const UNREAD_AUDIT: Row<'static> = Row {
+    name: "the first fetch of an audit fails",
+    fetches: &[1, 2],
+    puts: &[1],
+    reports: &[2],
+    status: 4,
+    out: b"",
+    err: b"read fault 1\n",
+    ..AUDITED
+};
+
+const UNREAD_LIST: Row<'static> = Row {
+    name: "the first fetch for a doctor's other list fails",
+    words: &["whatif", "F", "A", "O"],
+    own: REPLACED.own,
+    ..UNREAD_AUDIT
 };
 
 const UNWRITTEN: Row<'static> = Row {
@@ -144,7 +178,7 @@ const UNWRITTEN: Row<'static> = Row {
     ..PLACED
 };
 
-static WRITTEN_ROWS: [Row<'static>; 15] = [
+static WRITTEN_ROWS: [Row<'static>; 19] = [
     PLACED,
     Row {
         name: "no doctors and no ranks",
@@ -205,6 +239,33 @@ static WRITTEN_ROWS: [Row<'static>; 15] = [
     },
     CHOSEN,
     FULL,
+    AUDITED,
+    Row {
+        name: "the placement that is printed is stable",
+        own: Some(FLEXIBLE.out),
+        status: 0,
+        out: b"stable\n",
+        ..AUDITED
+    },
+    Row {
+        name: "a prefecture over its cap",
+        hospitals: b"hospital,prefecture,capacity,target\nH1,P,1,0\n",
+        doctors: b"doctor,choices\nA,H1\n",
+        ranks: Some(b"hospital,doctors\nH1,A\n"),
+        policy: Some(b"version = 1\nkind = \"steps\"\n[[prefecture]]\nname = \"P\"\ncap = 0\n"),
+        own: Some(b"doctor,hospital\nA,H1\n"),
+        out: b"over,prefecture P\n",
+        ..AUDITED
+    },
+    Row {
+        name: "a doctor whose seat lowers the worth",
+        words: AUDITED.words,
+        own: Some(b"doctor,hospital\nA,H1\nB,H1\n"),
+        fetches: &[6],
+        status: 1,
+        out: b"unwanted,B,H1\n",
+        ..STEPS
+    },
     REPLACED,
     Row {
         name: "an empty list withdraws a doctor",
@@ -213,7 +274,7 @@ static WRITTEN_ROWS: [Row<'static>; 15] = [
     },
 ];
 
-static REFUSED_ROWS: [Row<'static>; 17] = [
+static REFUSED_ROWS: [Row<'static>; 27] = [
     REFUSED,
     Row {
         name: "a row that isn't text",
@@ -305,10 +366,64 @@ static REFUSED_ROWS: [Row<'static>; 17] = [
         err: b"refused 21 5 3 1\n",
         ..REFUSED_LIST
     },
+    REFUSED_PLACEMENT,
+    Row {
+        name: "a placement that isn't text",
+        own: Some(b"doctor,hospital\nA,\xff\n"),
+        err: b"refused 12 5 1 0\n",
+        ..REFUSED_PLACEMENT
+    },
+    Row {
+        name: "a placement with another header",
+        own: Some(b"doctor,place\nA,H2\n"),
+        err: b"refused 13 5 0 2\n",
+        ..REFUSED_PLACEMENT
+    },
+    Row {
+        name: "the place of no doctor",
+        own: Some(b"doctor,hospital\nZ,H2\n"),
+        err: b"refused 60 5 1 1\n",
+        ..REFUSED_PLACEMENT
+    },
+    Row {
+        name: "two places of a doctor",
+        own: Some(b"doctor,hospital\nA,\nA,H9\n"),
+        err: b"refused 63 5 2 1\n",
+        ..REFUSED_PLACEMENT
+    },
+    Row {
+        name: "a place at no hospital",
+        own: Some(b"doctor,hospital\nA,H9\n"),
+        err: b"refused 61 5 1 2\n",
+        ..REFUSED_PLACEMENT
+    },
+    Row {
+        name: "a place at a hospital that doesn't rank the doctor",
+        own: Some(b"doctor,hospital\nA,H1\n"),
+        err: b"refused 62 5 1 2\n",
+        ..REFUSED_PLACEMENT
+    },
+    Row {
+        name: "a place at a hospital that the doctor doesn't list",
+        own: Some(b"doctor,hospital\nA,H2\n"),
+        err: b"refused 62 5 1 2\n",
+        ..REFUSED_PLACEMENT
+    },
+    Row {
+        name: "a doctor who has no row",
+        own: Some(b"doctor,hospital\n"),
+        err: b"refused 64 5 1 0\n",
+        ..REFUSED_PLACEMENT
+    },
+    Row {
+        name: "where the folder is refused, its placement is not fetched",
+        words: &["audit", "F", "O"],
+        ..REFUSED
+    },
     NO_COMMAND,
 ];
 
-static FAILED_ROWS: [Row<'static>; 12] = [
+static FAILED_ROWS: [Row<'static>; 24] = [
     Row {
         name: "no file of offers",
         words: &["choose", "F"],
@@ -327,6 +442,11 @@ static FAILED_ROWS: [Row<'static>; 12] = [
     Row {
         name: "no file with a list",
         words: &["whatif", "F", "A"],
+        ..NO_COMMAND
+    },
+    Row {
+        name: "no file with a placement",
+        words: &["audit", "F"],
         ..NO_COMMAND
     },
     UNREAD,
@@ -371,7 +491,72 @@ static FAILED_ROWS: [Row<'static>; 12] = [
         err: b"write fault\n",
         ..REPLACED
     },
+    UNREAD_AUDIT,
+    Row {
+        name: "the second fetch of an audit fails",
+        fetches: &[2, 3],
+        err: b"read fault 2\n",
+        ..UNREAD_AUDIT
+    },
+    Row {
+        name: "the third fetch of an audit fails",
+        fetches: &[3, 4],
+        err: b"read fault 3\n",
+        ..UNREAD_AUDIT
+    },
+    Row {
+        name: "the fourth fetch of an audit fails",
+        fetches: &[4, 5],
+        err: b"read fault 4\n",
+        ..UNREAD_AUDIT
+    },
+    Row {
+        name: "the fetch of the placement fails",
+        fetches: &[5, 6],
+        err: b"read fault 5\n",
+        ..UNREAD_AUDIT
+    },
+    Row {
+        name: "the put of a finding fails",
+        puts: &[1, 2],
+        reports: &[2],
+        status: 5,
+        out: b"",
+        err: b"write fault\n",
+        ..AUDITED
+    },
+    UNREAD_LIST,
+    Row {
+        name: "the second fetch for a doctor's other list fails",
+        fetches: &[2, 3],
+        err: b"read fault 2\n",
+        ..UNREAD_LIST
+    },
+    Row {
+        name: "the third fetch for a doctor's other list fails",
+        fetches: &[3, 4],
+        err: b"read fault 3\n",
+        ..UNREAD_LIST
+    },
+    Row {
+        name: "the fourth fetch for a doctor's other list fails",
+        fetches: &[4, 5],
+        err: b"read fault 4\n",
+        ..UNREAD_LIST
+    },
     UNWRITTEN,
+    Row {
+        name: "the put of a finding and the report of it fail",
+        words: AUDITED.words,
+        own: AUDITED.own,
+        fetches: &[6],
+        puts: &[1, 2],
+        reports: &[1, 2],
+        status: 5,
+        out: b"",
+        err: b"",
+        ..FLEXIBLE
+    },
     Row {
         name: "neither put is taken",
         reports: &[1, 2],
@@ -381,11 +566,13 @@ static FAILED_ROWS: [Row<'static>; 12] = [
 ];
 
 // Calls whose output has room for so many bytes and no more.
-static TORN_ROWS: [(Row<'static>, usize); 5] = [
+static TORN_ROWS: [(Row<'static>, usize); 7] = [
     (PLACED, 0),
     (PLACED, 10),
     (STEPS, 10),
     (CHOSEN, 10),
+    (AUDITED, 0),
+    (AUDITED, 7),
     (REPLACED, 10),
 ];
 

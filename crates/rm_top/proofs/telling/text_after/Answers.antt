@@ -6,9 +6,9 @@ pub returns-in-Err-clause-stops : goal.returns-in-Err-clause-stops
 returns-in-Err-clause-stops g c =
     file_stops _ _ _ _ c.args.command.now c.args.case.now c.in-Err.fault (sym c.refused_word.ensures ∙ c.in_default.is) c.in-Err.ensures.loads c.in-Err.ensures.fails
 
-pub returns-in-Ok-text_on-clause-text : goal.returns-in-Ok-text_on-clause-text
-returns-in-Ok-text_on-clause-text g c =
-    rows_told _ c.args.command.now c.args.case.now c.in-Ok.own c.in-Ok-text_on.text.items (sym c.refused_word.ensures ∙ c.in_default.is) c.in-Ok.ensures.loads c.in-Ok-text_on.ensures.text
+pub returns-in-Ok-text_on-clause-told : goal.returns-in-Ok-text_on-clause-told
+returns-in-Ok-text_on-clause-told g c =
+    rows_told _ c.args.command.now c.args.case.now c.in-Ok.own c.in-Ok-text_on.told (sym c.refused_word.ensures ∙ c.in_default.is) c.in-Ok.ensures.loads c.in-Ok-text_on.ensures.told
 
 pub returns-in-Err-Refused-clause-stops : goal.returns-in-Err-Refused-clause-stops
 returns-in-Err-Refused-clause-stops g c =

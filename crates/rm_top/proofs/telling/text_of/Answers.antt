@@ -1,13 +1,13 @@
 use Rattle.std.proofs.Common.{◌∙◌}
 use Rattle.std.proofs.lemmas.Result.{IfOk-weaker, IfErr-weaker}
-use Rattle.rm_top.proofs.Answering.{stops_first, stops_later, text_found}
+use Rattle.rm_top.proofs.Answering.{stops_first, stops_later, told_found}
 use Rattle.rm_top.proofs.telling.text_of.Goals as goal
 
-pub returns-clause-text : goal.returns-clause-text
-returns-clause-text g c =
+pub returns-clause-told : goal.returns-clause-told
+returns-clause-told g c =
     IfOk-weaker c.text_after.result _ _
-    (λ text has. text_found _ c.args.command.now c.in-Ok.case text.items (rw c.folder.ensures at c.in-Ok.ensures.loads) has)
-    (rw c.in-Ok.ensures.files at c.text_after.ensures.text)
+    (λ told has. told_found _ c.args.command.now c.in-Ok.case told (rw c.folder.ensures at c.in-Ok.ensures.loads) has)
+    (rw c.in-Ok.ensures.files at c.text_after.ensures.told)
 
 pub returns-clause-stops : goal.returns-clause-stops
 returns-clause-stops g c =
