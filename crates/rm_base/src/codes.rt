@@ -143,6 +143,9 @@ pub const NOT_CONTRACT: u8 = 65;
 /// A contract that stands before; `b` is the former row.
 pub const REPEATED_CONTRACT: u8 = 66;
 
+/// A text of a journal that is no answer, or a cell of an answer that is to be empty.
+pub const BAD_ANSWER: u8 = 67;
+
 // ---- limits
 
 /// The most hospitals.
