@@ -9,6 +9,7 @@ ghost use Rattle.rm_market.specs.declared.Finding.TheVariants.{Stable};
 ghost use Rattle.rm_verdict_laws.specs.Findings.{IsFinding};
 ghost use Rattle.rm_case.specs.Case.{IsCase, market};
 ghost use Rattle.rm_audit.specs.Blocking.{AreMarks};
+ghost use Rattle.rm_audit.specs.CountForm.{IsStableByCounts};
 ghost use Rattle.rm_audit.specs.Placement.{AreListedPlaces};
 
 use crate::blocking::first_blocking;
@@ -26,8 +27,14 @@ use std::alloc::Global;
 /// `Unwanted(z)` comes exactly where the placed contracts aren't the best subset of themselves, with the least z without which
 /// they are better. Else `Blocks(x)` comes exactly where some contract blocks, with the least such x: its doctor prefers it to
 /// his place, and with x the placed contracts aren't the best subset. Else `Stable`, which comes exactly where the set of the
-/// places is stable in the case's market. Nodes and contracts are told by number, from 0. `NoMemory` comes only where memory
-/// for a mark of each contract, for the placed contracts, or for two entries of each node is wanting.
+/// places is stable in the case's market. Nodes and contracts are told by number, from 0.
+///
+/// With a flexible policy `Stable` comes of places that keep every cap exactly where they have the count form, which looks at no
+/// worths: each contract that a doctor prefers to his place is passed over, at a hospital that ranks all whom it holds above him,
+/// and that has no seat left, or whose region is full and has its next turn later than those of all seats that it holds.
+///
+/// `NoMemory` comes only where memory for a mark of each contract, for the placed contracts, or for two entries of each node is
+/// wanting.
 ///
 /// Each placed contract and each contract that a doctor prefers to his place is looked at once, at the cost of the length of its
 /// chain of nodes.
@@ -35,6 +42,7 @@ pub fn audit(alloc: Global, case: &Case, places: &Places) -> Result<Finding, NoM
     requires { AreListedPlaces case.now places.now }
     ensures finding { IfOk result (IsFinding (market case.now) (set_of_places (market case.now) places.now)) }
     ensures stable { IfOk result (λ finding. (finding ≡ Stable) ↔ IsStableIn (market case.now) (set_of_places (market case.now) places.now)) }
+    ensures counts { IfOk result (IsStableByCounts case.now (set_of_places (market case.now) places.now)) }
 {
     let marks = marks_of(alloc, case, places)?;
     let contracts = contracts_of(alloc, case.board(), &marks)?;
