@@ -13,11 +13,12 @@ ghost use Rattle.rm_audit.specs.CountForm.{IsStableByCounts};
 ghost use Rattle.rm_audit.specs.Placement.{AreListedPlaces};
 
 use crate::blocking::first_blocking;
-use crate::placed::{cheapest_of, counts_of, first_over, first_unwanted};
+use crate::placed::{cheapest_of, counts_of, first_unwanted};
 use rm_base::NoMemory;
 use rm_board::Board;
 use rm_case::{Case, Places};
 use rm_market::Finding;
+use rm_valuation::first_over;
 use std::alloc::Global;
 
 /// The finding on the placement that these places make: there is one for each doctor, and each is the hospital of a contract that

@@ -146,6 +146,9 @@ pub const REPEATED_CONTRACT: u8 = 66;
 /// A text of a journal that is no answer, or a cell of an answer that is to be empty.
 pub const BAD_ANSWER: u8 = 67;
 
+/// A text that is no event, or a cell of an event that is to be empty.
+pub const BAD_EVENT: u8 = 68;
+
 // ---- limits
 
 /// The most hospitals.
