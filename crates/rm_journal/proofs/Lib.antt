@@ -1,2 +1,4 @@
 mod Checked
 mod InMarket
+mod Owned
+mod Read

@@ -1,1 +1,3 @@
 pub mod Doctors
+pub mod Owned
+pub mod Reading

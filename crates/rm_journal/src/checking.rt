@@ -1,6 +1,6 @@
 // The check of a journal, one exchange for each of its entries.
 
-ghost use Rattle.std.specs.Prelude.{◌≡◌, ◌==◌, ℕ, ◌<◌, List, [], All, IfOk, false, length, get_or};
+ghost use Rattle.std.specs.Prelude.{◌≡◌, ◌↔◌, ◌==◌, ℕ, ◌<◌, List, [], All, IfOk, false, length, get_or};
 ghost use Rattle.std.specs.Option.{option_map_or};
 ghost use Rattle.rm_market.specs.Best.{best_of, values_of};
 ghost use Rattle.rm_market.specs.Board.{contract_count};
@@ -9,7 +9,7 @@ ghost use Rattle.rm_market.specs.Market.{IsPlacementOf, wishes_of};
 ghost use Rattle.rm_market.specs.declared.Outcome.TheVariants as out;
 ghost use Rattle.rm_rounds.specs.Desk.{places_after, wishes};
 ghost use Rattle.rm_case.specs.Case.{market};
-ghost use Rattle.rm_journal_laws.specs.Journal.{Says, left_by, same_outcome};
+ghost use Rattle.rm_journal_laws.specs.Journal.{IsAccepted, Says, left_by, same_outcome};
 ghost use Rattle.rm_journal_laws.specs.declared.Check.TheVariants as checks;
 ghost use Rattle.rm_journal.specs.Doctors.{IsFirst, next_told};
 
@@ -22,14 +22,17 @@ use rm_ranks::Lists;
 use std::alloc::Global;
 
 /// What is to be said of a journal of the case's offers, whoever wrote it and in whatever order: the first entry that isn't next
-/// or isn't true decides, and without one whether somebody can still offer. Where it is `Accepted`, what its offers leave held is
-/// the placement of the case. An entry's contract is its number on the board, counted from 0, and must be one of the board's;
-/// `Check` counts entries from 1, and tells a doctor by his row of `doctors.csv`, counted from 0. `NoMemory` is want of memory.
+/// or isn't true decides, and without one whether somebody can still offer. `Accepted` comes exactly where each entry in turn is
+/// next and true and nobody can offer after the last, and then what its offers leave held is the placement of the case. An entry's
+/// contract is its number on the board, counted from 0, and must be one of the board's; `Check` counts entries from 1, and tells a
+/// doctor by his row of `doctors.csv`, counted from 0. `NoMemory` is want of memory.
 ///
 /// Each entry costs one offer to a `FastHolder`, and the end one look at each doctor.
 pub fn verify(alloc: Global, case: &Case, entries: &[Entry]) -> Result<Check, NoMemory>
     requires { All (λ e. e.x < contract_count (market case.now).board) entries.now }
     ensures says { IfOk result (Says (best_of (values_of (market case.now).board)) (wishes_of (market case.now)) entries.now) }
+    ensures accepted { IfOk result (λ check.
+        (check ≡ checks.Accepted) ↔ IsAccepted (best_of (values_of (market case.now).board)) (wishes_of (market case.now)) entries.now) }
     ensures placement { IfOk result (λ check. check ≡ checks.Accepted
         → IsPlacementOf (market case.now) (left_by (best_of (values_of (market case.now).board)) (wishes_of (market case.now)) entries.now).held) }
 {

@@ -5,11 +5,10 @@ use Rattle.std.proofs.lemmas.Grind.{flat_map-append}
 use Rattle.csv.specs.Writing.{row_text, default_writer}
 use Rattle.rm_base.specs.Text.{Text}
 use Rattle.rm_market.specs.Tree.{below}
-use Rattle.rm_market.specs.declared.CertRow.{CertRow}
 use Rattle.rm_case.specs.Case.{CaseData}
 use Rattle.rm_roster.specs.Roster.{hospitals_in}
 use Rattle.rm_report.specs.Report.{hospital_row, prefecture_rows, report_header, report_rows, whole_row}
-use Rattle.rm_report.specs.Texts.{csv_text, certificate_header, certificate_row, PlacesData}
+use Rattle.rm_report.specs.Texts.{csv_text, PlacesData}
 
 pub csv-one : (row : List Text) → csv_text (row ∷ []) ≡ row_text default_writer row
 unfolding csv_text
@@ -27,13 +26,12 @@ row-more header row d =
     rw (add-one d) (ap (λ (rows : List (List Text)). csv_text (header ∷ rows)) (map-append row (below d) (d ∷ []))
     ∙ csv-more (header ∷ map row (below d)) (row d))
 
--- the row of the next entry
-pub certificate-more : (c : CaseData) (rows : List CertRow) (i : ℕ) (d : CertRow) → i < length rows
-    → csv_text (certificate_header ∷ map (certificate_row c) (take (i + 1) rows))
-    ≡ csv_text (certificate_header ∷ map (certificate_row c) (take i rows)) ++ row_text default_writer (certificate_row c (get_or rows i d))
-certificate-more c rows i d low =
-    ap (λ (rows : List (List Text)). csv_text (certificate_header ∷ rows)) (map_more (certificate_row c) rows i d low)
-    ∙ csv-more (certificate_header ∷ map (certificate_row c) (take i rows)) (certificate_row c (get_or rows i d))
+-- the row of the next item of a list
+pub item-more : {A : Type 0} (header : List Text) (row : A → List Text) (items : List A) (i : ℕ) (d : A) → i < length items
+    → csv_text (header ∷ map row (take (i + 1) items)) ≡ csv_text (header ∷ map row (take i items)) ++ row_text default_writer (row (get_or items i d))
+item-more header row items i d low =
+    ap (λ (rows : List (List Text)). csv_text (header ∷ rows)) (map_more row items i d low)
+    ∙ csv-more (header ∷ map row (take i items)) (row (get_or items i d))
 
 -- rows and then rows
 pub csv-append : (rows more : List (List Text)) → csv_text (rows ++ more) ≡ csv_text rows ++ csv_text more

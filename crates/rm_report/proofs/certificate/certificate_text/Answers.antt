@@ -1,8 +1,8 @@
 use Rattle.std.proofs.Common.{false, None}
 use Rattle.std.proofs.lemmas.List.{take_all}
 use Rattle.rm_market.specs.declared.CertRow.{CertRow}
-use Rattle.rm_report.specs.Texts.{certificate_text, certificate_header}
-use Rattle.rm_report.proofs.TextRows.{csv-one, certificate-more}
+use Rattle.rm_report.specs.Texts.{certificate_text, certificate_header, certificate_row}
+use Rattle.rm_report.proofs.TextRows.{csv-one, item-more}
 use Rattle.rm_report.proofs.certificate.certificate_text.Goals as goal
 
 pub loop-row-init : goal.loop-row-init
@@ -11,7 +11,7 @@ loop-row-init c = rw (csv-one certificate_header) (c.in_ok-write_header.ensures 
 pub loop-row-preserved : goal.loop-row-preserved
 loop-row-preserved c =
     let past_end : CertRow = record { contract = 0; kept = false; change = None; full = None; swap = None } in
-    rw (certificate-more c.args.case.now c.args.rows.now c.loop-row.row-index past_end c.loop-row-test.true) (c.in_ok-write_printed.ensures _ c.loop-row.invariant)
+    rw (item-more certificate_header (certificate_row c.args.case.now) c.args.rows.now c.loop-row.row-index past_end c.loop-row-test.true) (c.in_ok-write_printed.ensures _ c.loop-row.invariant)
 
 pub returns : goal.returns
 unfolding certificate_text
