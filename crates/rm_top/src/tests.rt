@@ -619,7 +619,9 @@ static TRAVEL_ROWS: [Row<'static>; 25] = [
     },
     Row {
         name: "a doctor who was put out has no contract left, and the placement is held",
-        own: Some(b"event,doctor,hospital\nsend,A\nsend,B\noffer,B,H1\noffer,A,H2\nrefusal,A,H2\nsend,A\noffer,A,H1\nrefusal,B,H1\n"),
+        own: Some(
+            b"event,doctor,hospital\nsend,A\nsend,B\noffer,B,H1\noffer,A,H2\nrefusal,A,H2\nsend,A\noffer,A,H1\nrefusal,B,H1\n",
+        ),
         out: b"doctor,hospital,state\nA,H1,held\nB,,done\n,,closed\n",
         ..TRAVELLED
     },

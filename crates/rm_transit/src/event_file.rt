@@ -11,9 +11,7 @@ ghost use Rattle.rm_transit.specs.Events.{contract_checks, event_checks, event_t
 ghost use Rattle.rm_transit.specs.Travel.{IsEventOf};
 
 use rm_base::ReadFault;
-use rm_base::codes::{
-    NOT_CONTRACT, OWN_FILE, UNKNOWN_DOCTOR, UNKNOWN_HOSPITAL, WRONG_HEADER,
-};
+use rm_base::codes::{NOT_CONTRACT, OWN_FILE, UNKNOWN_DOCTOR, UNKNOWN_HOSPITAL, WRONG_HEADER};
 use rm_case::{Case, OwnFault};
 use rm_roster::wrong_cell;
 use rm_table::{Row, Table};

@@ -22,7 +22,12 @@ const ROW_BYTES: usize = 24;
 /// doctor in his order, with his name, the hospital of his mark or an empty cell, and `free`, `done`, `offered`, `held` or
 /// `refused`; and last two empty cells and `closed`, or `open`. There is one mark per doctor, and its contract is a number on the
 /// case's board, counted from 0. `NoMemory` is want of memory.
-pub fn transit_text(alloc: Global, case: &Case, marks: &[Mark], closed: bool) -> Result<Vec<u8>, NoMemory>
+pub fn transit_text(
+    alloc: Global,
+    case: &Case,
+    marks: &[Mark],
+    closed: bool,
+) -> Result<Vec<u8>, NoMemory>
     requires doctors { length marks.now ≡ length case.now.roster.doctors }
     requires contracts { AreMarksBelow (contract_count (market case.now).board) marks.now }
     ensures { IfOk result (λ text. text.items ≡ transit_text case.now marks.now closed) }
@@ -35,7 +40,10 @@ pub fn transit_text(alloc: Global, case: &Case, marks: &[Mark], closed: bool) ->
         let mark = marks[d as usize];
         let hospital = mark_hospital(case, mark);
         let word = mark_word(mark);
-        write_row(&mut writer, &[doctor.as_bytes(), hospital.as_bytes(), word.as_bytes()])?;
+        write_row(
+            &mut writer,
+            &[doctor.as_bytes(), hospital.as_bytes(), word.as_bytes()],
+        )?;
     }
     write_closing(&mut writer, closed)?;
     let text = close(writer)?;
