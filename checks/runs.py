@@ -88,6 +88,11 @@ def rewritten(text, room):
     return "".join(parts), lines
 
 
+def counted(counts):
+    """How many there were of each word, for a reader."""
+    return ", ".join("%d %s" % (count, word) for word, count in sorted(counts.items()))
+
+
 def difference(name, wanted, got):
     """The lines in which two texts differ, for a reader, or nothing."""
     import difflib

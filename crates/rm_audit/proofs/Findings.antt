@@ -19,7 +19,7 @@ use Rattle.rm_verdict_laws.proofs.Verdict.{no_removal_from, found_removal}
 use Rattle.rm_verdict_laws.proofs.Finding.{own_best, placed_below, finding_says}
 use Rattle.rm_exchange.specs.Counted.{IsChosen}
 use Rattle.rm_audit.specs.Placed.{AreCheapest}
-use Rattle.rm_audit.specs.Blocking.{IsWeighed, IsFirstBlocking}
+use Rattle.rm_audit.specs.Blocking.{IsWeighed, IsFirstBlocking, blocking_finding}
 use Rattle.rm_audit.specs.declared.placed.Removal.{Removal}
 use Rattle.rm_audit.proofs.Reaching.{wants_reached, reached_wants}
 
@@ -49,7 +49,7 @@ module _ (m : Market) (ok : IsMarket m) (S : List ℕ) (p : IsPlacement (wishes_
       subst (λ c. IsWeighed c S counts cheapest) (sym e)
       (record { set = below; own = own b e none kept; counted = subst (λ c. AreCounts c S counts) e counted; removals = subst (λ c. AreCheapest c S S cheapest) e removals })
 
-  pub blocks_finding : (b : Board) → b ≡ m.board → over_cap b S ≡ None → better_without (values_of b) S ≡ None → (x : ℕ) → IsFirstBlocking b (wishes_of m).listed S (Some x) → IsFinding m S (findings.Blocks x)
+  blocks_finding : (b : Board) → b ≡ m.board → over_cap b S ≡ None → better_without (values_of b) S ≡ None → (x : ℕ) → IsFirstBlocking b (wishes_of m).listed S (Some x) → IsFinding m S (findings.Blocks x)
   blocks_finding b e none kept x first =
       let f = subst (λ c. IsFirstBlocking c (wishes_of m).listed S (Some x)) e first in
       let laws = are_wishes m ok in
@@ -61,7 +61,7 @@ module _ (m : Market) (ok : IsMarket m) (S : List ℕ) (p : IsPlacement (wishes_
         },
       )
 
-  pub stable_finding : (b : Board) → b ≡ m.board → over_cap b S ≡ None → better_without (values_of b) S ≡ None → IsFirstBlocking b (wishes_of m).listed S None → IsFinding m S findings.Stable
+  stable_finding : (b : Board) → b ≡ m.board → over_cap b S ≡ None → better_without (values_of b) S ≡ None → IsFirstBlocking b (wishes_of m).listed S None → IsFinding m S findings.Stable
   stable_finding b e none kept first =
       let f = subst (λ c. IsFirstBlocking c (wishes_of m).listed S None) e first in
       let laws = are_wishes m ok in
@@ -71,6 +71,10 @@ module _ (m : Market) (ok : IsMarket m) (S : List ℕ) (p : IsPlacement (wishes_
         kept = own b e none kept;
         unblocked = λ x lx t. f x (reached_wants (contract_count m.board) (wishes_of m) laws S p x (omega arith) t);
       }
+
+  pub first_finding : (b : Board) → b ≡ m.board → over_cap b S ≡ None → better_without (values_of b) S ≡ None → (first : Option ℕ) → IsFirstBlocking b (wishes_of m).listed S first → IsFinding m S (blocking_finding first)
+  first_finding b e none kept (Some x) f = blocks_finding b e none kept x f
+  first_finding b e none kept None f = stable_finding b e none kept f
 
   -- it is `Stable` exactly where the placement is stable
   pub stable_where : {E : Type 0} (r : Result Finding E) → IfOk r (IsFinding m S) → IfOk r (λ f. (f ≡ findings.Stable) ↔ IsStableIn m S)

@@ -1,4 +1,5 @@
 mod Blocks
+mod CountForm
 mod Entering
 mod Findings
 mod Listed

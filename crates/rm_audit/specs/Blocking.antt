@@ -4,6 +4,8 @@ use Rattle.std.specs.Ordering.{int_eq}
 use Rattle.rm_sets.specs.Sets.{has, IsSetBelow, with_one}
 use Rattle.rm_market.specs.Board.{Board, contract_count}
 use Rattle.rm_market.specs.Best.{IsBest, values_of}
+use Rattle.rm_market.specs.declared.Finding.{Finding}
+use Rattle.rm_market.specs.declared.Finding.TheVariants.{Blocks, Stable}
 use Rattle.rm_valuation.specs.Counts.{AreCounts}
 use Rattle.rm_audit.specs.Placed.{AreCheapest}
 use Rattle.rm_audit.specs.declared.placed.Removal.{Removal}
@@ -58,3 +60,8 @@ abbrev pub IsFirstBlocking : Board → List (List ℕ) → List ℕ → Option �
 IsFirstBlocking b lists S (Some x) =
     IsReachedIn S lists (length lists) x × ¬ IsUnmoved b S x × ((y : ℕ) → IsReachedIn S lists (length lists) y → (x ≤ y) ⊎ IsUnmoved b S y)
 IsFirstBlocking b lists S None = (y : ℕ) → IsReachedIn S lists (length lists) y → IsUnmoved b S y
+
+-- the finding on a set that is its own best subset, from the least contract that blocks it
+abbrev pub blocking_finding : Option ℕ → Finding
+blocking_finding (Some x) = Blocks x
+blocking_finding None = Stable

@@ -1,3 +1,4 @@
+pub mod CountForm
 pub mod Placed
 pub mod Placement
 pub mod Blocking

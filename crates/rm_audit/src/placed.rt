@@ -4,7 +4,7 @@ ghost use Rattle.std.specs.Prelude.{◌≡◌, ◌<◌, ◌++◌, ℕ, List, [],
 ghost use Rattle.rm_sets.specs.Sets.{IsSetBelow};
 ghost use Rattle.rm_market.specs.Board.{contract_count, leaf_of, is_feasible, sets_of};
 ghost use Rattle.rm_market.specs.Best.{values_of};
-ghost use Rattle.rm_market.specs.Certificate.{better_without, over_cap};
+ghost use Rattle.rm_market.specs.Certificate.{better_without};
 ghost use Rattle.rm_market.specs.Tree.{chain};
 ghost use Rattle.rm_valuation.specs.Counts.{AreCounts, IsMarketBoard};
 ghost use Rattle.rm_exchange.specs.Counted.{IsChosen};
@@ -12,7 +12,7 @@ ghost use Rattle.rm_audit.specs.Placed.{AreCheapest, cheaper_of, IsWalkable};
 
 use rm_base::NoMemory;
 use rm_board::Board;
-use rm_valuation::{count_in, count_none, last_step, loss};
+use rm_valuation::{count_all, last_step, loss};
 use std::alloc::Global;
 
 // The removal of a placed contract: what is lost without it at the nodes so far, and its tie key.
@@ -44,32 +44,6 @@ pub(crate) fn counts_of(
     let mut counts = vec![in alloc; 0; board.tree().nodes() as usize]?;
     count_all(board, &mut counts, contracts);
     Ok(counts)
-}
-
-// Makes the counts those of these contracts.
-fn count_all(board: &Board, counts: &mut [u32], contracts: &[u32])
-    requires contracts { IsSetBelow (contract_count board.now) contracts.now }
-    requires nodes { length counts.old ≡ length board.now.nodes }
-    ensures nodes { length counts.new ≡ length board.now.nodes }
-    ensures counts { AreCounts board.now contracts.now counts.new }
-{
-    count_none(counts);
-    for i in 0..contracts.len() {
-        count_in(board, counts, contracts[i]);
-    }
-}
-
-// The least node over its cap.
-pub(crate) fn first_over(board: &Board, counts: &[u32]) -> Option<u32>
-    requires { length counts.now ≡ length board.now.nodes }
-    ensures { (S : List ℕ) → AreCounts board.now S counts.now → result ≡ over_cap board.now S }
-{
-    for node in 0..board.tree().nodes() {
-        if counts[node as usize] > board.steps(node).cap() {
-            return Some(node);
-        }
-    }
-    None
 }
 
 // The least of these contracts whose removal is better.

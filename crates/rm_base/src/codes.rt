@@ -143,8 +143,20 @@ pub const NOT_CONTRACT: u8 = 65;
 /// A contract that stands before; `b` is the former row.
 pub const REPEATED_CONTRACT: u8 = 66;
 
+/// A text of a journal that is no answer, or a cell of an answer that is to be empty.
+pub const BAD_ANSWER: u8 = 67;
+
 /// A text that is no event, or a cell of an event that is to be empty.
 pub const BAD_EVENT: u8 = 68;
+
+/// A name of no group and of no prefecture's entry; `a` is the number of the word, and `b` is 0.
+pub const UNKNOWN_GROUP: u8 = 69;
+
+/// A group that isn't given by `cap`, or lies in another node; `a` is its item, and `b` is 0.
+pub const NO_OUTERMOST_CAP: u8 = 70;
+
+/// A cap below that of the group; `a` is the group's item, and `b` its cap.
+pub const CAP_BELOW: u8 = 71;
 
 // ---- limits
 

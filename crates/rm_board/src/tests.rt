@@ -20,15 +20,9 @@ fn one_rank(alloc: Global) -> Result<Lists, NoMemory>
     ensures one { IfOk result (λ ranks. length ranks ≡ 1) }
 {
     let mut builder = ListsBuilder::new(alloc, 1, 2, 10)?;
-    let Ok(()) = builder.row(0, 1) else {
+    if builder.row(0, 1).is_err() || builder.push(0).is_err() || builder.push(1).is_err() {
         return Err(AllocError);
-    };
-    let Ok(()) = builder.push(0) else {
-        return Err(AllocError);
-    };
-    let Ok(()) = builder.push(1) else {
-        return Err(AllocError);
-    };
+    }
     builder.finish(alloc)
 }
 

@@ -43,7 +43,7 @@ rule_fault r p (rule.Listed pairs) e = rw e.0 (rw e.1 refl)
 
 -- ---- the nodes
 
-map_below : {A : Type 0} (f g : ℕ → A) (n : ℕ) → ((h : ℕ) → h < n → f h ≡ g h) → map f (below n) ≡ map g (below n)
+pub map_below : {A : Type 0} (f g : ℕ → A) (n : ℕ) → ((h : ℕ) → h < n → f h ≡ g h) → map f (below n) ≡ map g (below n)
 map_below f g zero same = refl
 map_below f g (suc n) same =
     rw (map-append f (below n) (n ∷ []), map-append g (below n) (n ∷ []), map_below f g n (λ h lt. same h (omega (arith, lt))), same n (omega arith)) refl
@@ -52,7 +52,7 @@ drop_past : {A : Type 0} (xs ys : List A) → drop (length xs) (xs ++ ys) ≡ ys
 drop_past [] ys = refl
 drop_past (x ∷ xs) ys = drop_past xs ys
 
-own_at : (r : RosterData) (p : PolicyData) (h : ℕ) → h < length r.hospitals → get_or (node_steps r p) h [] ≡ compiled_steps r p h
+pub own_at : (r : RosterData) (p : PolicyData) (h : ℕ) → h < length r.hospitals → get_or (node_steps r p) h [] ≡ compiled_steps r p h
 own_at r p h lt =
     let n = length r.hospitals in
     let own = map (compiled_steps r p) (below n) in
@@ -60,7 +60,7 @@ own_at r p h lt =
     get_or_append_left own p.groups.steps [] h (omega (arith, lt, wide))
     ∙ (get_or-map (compiled_steps r p) (below n) h 0 [] (omega (arith, lt, length-below n)) ∙ ap (compiled_steps r p) (get_or-below n h 0 lt))
 
-groups_after : (r : RosterData) (p : PolicyData) → drop (length r.hospitals) (node_steps r p) ≡ p.groups.steps
+pub groups_after : (r : RosterData) (p : PolicyData) → drop (length r.hospitals) (node_steps r p) ≡ p.groups.steps
 groups_after r p =
     let n = length r.hospitals in
     let own = map (compiled_steps r p) (below n) in
@@ -75,7 +75,7 @@ nodes_same r p n same =
     map_below (hospital_node (λ h. get_or (node_steps r p) h [])) (hospital_node (compiled_steps r p)) n
     (λ h lt. ap (λ (steps : List ℤ). record { leaves = h ∷ []; steps = steps }) (own_at r p h (omega (arith, lt, same))))
 
-same_board : (r : RosterData) (p : PolicyData) (t : TieRule) → IsRoster r → IsRuleOf p t
+pub same_board : (r : RosterData) (p : PolicyData) (t : TieRule) → IsRoster r → IsRuleOf p t
     → built_board r.ranks (record { hospitals = length r.hospitals; groups = p.groups.members }) (node_steps r p) (order_of r.ranks t) ≡ compiled_board r p
 unfolding compiled_board
 same_board r p t roster e = rw (nodes_same r p (length r.ranks) roster.rank_each, groups_after r p, rule_order r p t e) refl

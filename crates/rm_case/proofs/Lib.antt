@@ -11,9 +11,10 @@ mod RegionsEntries
 mod RegionsNodes
 mod RegionsSums
 mod RegionsTold
+mod RaisedLemmas
 mod ReplacedLists
 pub mod Solved
-mod Titles
+pub mod Titles
 mod Told
 mod TurnLemmas
 mod TurnRuns

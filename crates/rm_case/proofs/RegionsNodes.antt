@@ -41,7 +41,7 @@ module _ (r : RosterData) (p : PolicyData) where
   abbrev hospital_node : ℕ → Node
   hospital_node h = record { leaves = h ∷ []; steps = compiled_steps r p h }
 
-  own_long : length own ≡ n
+  pub own_long : length own ≡ n
   own_long = length-map (below n) hospital_node ∙ length-below n
 
   -- a node for each hospital and for each group

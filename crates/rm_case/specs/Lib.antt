@@ -5,6 +5,7 @@ pub mod Regions
 pub mod Case
 pub mod Faults
 pub mod Parts
+pub mod Raised
 pub mod NodeSteps
 pub mod Loading
 pub mod Fetching

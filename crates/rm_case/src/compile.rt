@@ -55,7 +55,7 @@ fn ties_refusal(fault: BoardFault) -> ReadFault
 }
 
 // The rule of a policy's ties.
-fn tie_rule(policy: &Policy) -> TieRule<'_>
+pub(crate) fn tie_rule(policy: &Policy) -> TieRule<'_>
     ensures { IsRuleOf policy.entry.now result }
 {
     match policy.ties() {

@@ -13,6 +13,7 @@ mod offers;
 mod own_file;
 mod pair;
 mod places;
+mod raised;
 mod replaced;
 mod solve;
 mod table_file;

@@ -48,7 +48,7 @@ impl Case {
 }
 
 // The places that the doctors have once each was offered to a holder of the best subset, and none can offer any more.
-fn place_with<H: Holder + Drop>(
+pub(crate) fn place_with<H: Holder + Drop>(
     alloc: Global,
     board: &Board,
     listed: &Lists,

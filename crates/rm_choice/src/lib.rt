@@ -9,10 +9,12 @@ ghost use Rattle.rm_choice.specs.Size.{Fits, IsAsLarge};
 
 mod choice_holder;
 mod laws;
+mod one_post;
 mod room;
 
 pub use choice_holder::ChoiceHolder;
 pub use laws::{lawful_parts_join, path_independence};
+pub use one_post::OnePost;
 pub use rm_market::Outcome;
 pub use room::Room;
 

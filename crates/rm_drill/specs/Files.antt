@@ -28,7 +28,7 @@ hospital_rows capacities targets n = hospital_header ∷ map (hospital_row capac
 abbrev pub hospitals_text : List ℕ → List ℕ → Text
 hospitals_text capacities targets = written (hospital_rows capacities targets (length capacities))
 
--- ---- policy.toml: an entry per prefecture
+-- ---- policy.toml: an entry per prefecture, with the keys of a table in the order of their names, as `toml` prints them
 
 -- what the first n hospitals of prefecture q have together
 abbrev pub sum_in : List ℕ → ℕ → ℕ → ℕ
@@ -42,13 +42,13 @@ abbrev pub cap : List ℕ → List ℕ → ℕ → ℕ
 cap capacities targets q = whole_sum targets q + (whole_sum capacities q - whole_sum targets q) / 2
 
 abbrev pub entry : Text → ℕ → Text
-entry name cap = codes "\n[[prefecture]]\nname = \"" ++ (name ++ (codes "\"\ncap = " ++ (decimal cap ++ codes "\n")))
+entry name cap = codes "\n[[prefecture]]\ncap = " ++ (decimal cap ++ (codes "\nname = \"" ++ (name ++ codes "\"\n")))
 
 abbrev pub entry_text : List ℕ → List ℕ → ℕ → Text
 entry_text capacities targets q = entry (prefecture_name q) (cap capacities targets q)
 
 abbrev pub policy_head : Text
-policy_head = codes "version = 1\nkind = \"flexible\"\n"
+policy_head = codes "kind = \"flexible\"\nversion = 1\n"
 
 -- the head, and the entries of the first n prefectures
 abbrev pub entries_text : List ℕ → List ℕ → ℕ → Text

@@ -151,7 +151,7 @@ fn cap_of(seats: &Seats, q: usize) -> u64
 fn add_entry(text: &mut String, name: &str, cap: u64) -> Result<(), NoMemory>
     ensures { OnOk result (string_bytes text.new ≡ string_bytes text.old ++ entry name.now cap) }
 {
-    write!(text, "\n[[prefecture]]\nname = \"{name}\"\ncap = {cap}\n")
+    write!(text, "\n[[prefecture]]\ncap = {cap}\nname = \"{name}\"\n")
 }
 
 /// The text of `policy.toml` for hospitals with these seats: a flexible policy with an entry for each of the 47 prefectures. Its cap
@@ -162,7 +162,7 @@ pub fn policy_text(alloc: Global, seats: &Seats) -> Result<Vec<u8>, NoMemory>
     ensures { IfOk result (λ text. text.items ≡ policy_text seats.now.capacities.items seats.now.targets.items) }
 {
     let mut text = String::new(alloc);
-    write!(text, "version = 1\nkind = \"flexible\"\n")?;
+    write!(text, "kind = \"flexible\"\nversion = 1\n")?;
     let mut name = String::new(alloc);
     for q in 0..PREFECTURES {
         print_prefecture(&mut name, q)?;

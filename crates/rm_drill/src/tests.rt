@@ -27,7 +27,7 @@ fn are_written(alloc: Global) -> Result<bool, NoMemory> {
         hospitals.as_slice()
             == b"hospital,prefecture,capacity,target\nH00001,P01,6,0\nH00002,P02,1,1\nH00003,P03,2,2\n".as_slice()
             && policy.starts_with(
-                b"version = 1\nkind = \"flexible\"\n\n[[prefecture]]\nname = \"P01\"\ncap = 3\n".as_slice(),
+                b"kind = \"flexible\"\nversion = 1\n\n[[prefecture]]\ncap = 3\nname = \"P01\"\n".as_slice(),
             ),
     )
 }

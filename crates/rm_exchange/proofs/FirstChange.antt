@@ -13,24 +13,6 @@ use Rattle.rm_verdict_laws.specs.Verdicts.{is_over}
 use Rattle.rm_verdict_laws.proofs.First.{none_found}
 use Rattle.rm_verdict_laws.proofs.Over.{over_none, over_found}
 
--- ---- nodes
-
-pub node_count : (b : Board) → length (sets_of b) ≡ length b.nodes
-node_count b = simp length-map
-
-pub node_over : (b : Board) (S : List ℕ) (k : ℕ) → k < length b.nodes → cap_of (node_at b k) < count_at b S k → ((j : ℕ) → j < k → count_at b S j ≤ cap_of (node_at b j)) → over_cap b S ≡ Some k
-node_over b S k lt over kept = over_found b S k (record {
-  member = IsIn-all_below (length b.nodes) (λ j. true) k lt refl;
-  passes = lt-ltb (cap_of (node_at b k)) (count_at b S k) over;
-  least = λ j i t. ⊎_elim
-      (λ l. absurd (not_both (is_over b S j) t (le-ltb (cap_of (node_at b j)) (count_at b S j) (kept j l))))
-      (λ g. g)
-      (cases_lt j k);
-})
-
-pub no_node_over : (b : Board) (S : List ℕ) → ((j : ℕ) → j < length b.nodes → count_at b S j ≤ cap_of (node_at b j)) → over_cap b S ≡ None
-no_node_over b S kept = none_found (is_over b S) (below (length b.nodes)) (λ j i. le-ltb (cap_of (node_at b j)) (count_at b S j) (kept j (below-all_below (length b.nodes) (λ k. true) j i).0))
-
 -- ---- verdicts
 
 pub verdict_over : (b : Board) (X S : List ℕ) (k : ℕ) → over_cap b S ≡ Some k → verdicts.OverCap k ≡ verdict_of b X S

@@ -12,7 +12,7 @@ use Rattle.rm_verdict_laws.proofs.First.{none_found}
 use Rattle.rm_verdict_laws.proofs.Swaps.{first_pair, no_pair, pair_found}
 use Rattle.rm_board_laws.proofs.Searches.{position_nowhere}
 use Rattle.rm_exchange.specs.Swaps.{NoneBefore, IsFirstSwap}
-use Rattle.rm_exchange.proofs.Lists.{some_stays, some_last, rising}
+use Rattle.rm_valuation.proofs.Taken.{some_stays, some_last, rising}
 
 last_one : (x y : ℕ) (Y : List ℕ) (P : ℕ → Type 0) → IsIn x (Y ++ y ∷ []) → (IsIn x Y → P x) → P y → P x
 last_one x y Y P i old new = ⊎_elim old (λ h. ⊎_elim (λ e. subst P (sym e) new) (λ n. absurd (not_in_nil x n)) (IsIn-cases x y [] h)) (IsIn-append_cases Y (y ∷ []) x i)

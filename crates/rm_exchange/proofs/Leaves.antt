@@ -26,7 +26,7 @@ use Rattle.rm_exchange.specs.Entrants.{HasHospitals, inner_cost, IsBestAt}
 use Rattle.rm_exchange.specs.Leaves.{IsGreatestOf, IsOwnRemovalOf, IsTieOf, room_at, IsLeafOf, AreLeaves}
 use Rattle.rm_exchange.specs.Holding.{IsLastHeld}
 use Rattle.rm_exchange.proofs.Inner.{inner_none}
-use Rattle.rm_exchange.proofs.Lists.{with_last}
+use Rattle.rm_valuation.proofs.Taken.{with_last}
 use Rattle.rm_exchange.proofs.Homes.{own_test, leaf_test, leaf_test_is, nothing_inside}
 
 -- ---- members by counts

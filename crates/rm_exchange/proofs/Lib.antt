@@ -1,4 +1,3 @@
-pub mod Lists
 pub mod Changes
 pub mod FirstSwap
 pub mod FirstChange

@@ -10,13 +10,12 @@ ghost use Rattle.rm_verdict_laws.specs.Rows.{AreRowsOf};
 ghost use Rattle.rm_exchange.specs.Counted.{IsChosen, IsTakenOut};
 ghost use Rattle.rm_exchange.specs.RowsBelow.{IsLastAt, AreLasts, IsAhead, IsSwapBelow, IsRowBelow, AreRowsBelow, HasOutsBelow};
 
-use crate::counting::count_all;
 use crate::refused::holds;
 use crate::swaps::{swap_change, take_out};
 use rm_board::Board;
 use rm_choice::NoMemory;
 use rm_market::{CertRow, SwapRow};
-use rm_valuation::{count_in, gain, loss};
+use rm_valuation::{count_all, count_in, gain, loss};
 use std::alloc::Global;
 
 // The innermost node of contract x that is at its cap.

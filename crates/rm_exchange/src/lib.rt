@@ -2,7 +2,6 @@
 #![tactic(auto)]
 
 mod certificates;
-mod counting;
 mod fast;
 mod holding;
 mod leaf;

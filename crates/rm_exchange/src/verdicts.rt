@@ -12,13 +12,12 @@ ghost use Rattle.rm_verdict_laws.specs.Verdicts.{IsVerdict};
 ghost use Rattle.rm_exchange.specs.Counted.{IsChosen, IsTakenOut};
 ghost use Rattle.rm_exchange.specs.Swaps.{IsFirstSwap};
 
-use crate::counting::{count_all, first_over};
 use crate::refused::write_refused;
 use crate::swaps::{swap_change, take_out};
 use rm_board::Board;
 use rm_choice::Room;
 use rm_market::Verdict;
-use rm_valuation::{count_in, gain, loss};
+use rm_valuation::{count_all, count_in, first_over, gain, loss};
 
 // The least chosen contract whose removal is better.
 fn first_removal(board: &Board, counts: &[u32], chosen: &[u32]) -> Option<u32>

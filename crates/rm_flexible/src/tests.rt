@@ -2,7 +2,6 @@
 
 ghost use Rattle.std.specs.Prelude.{◌≡◌, ◌<◌, ◌≤◌, ℕ, [], ◌∷◌, All, IfOk, IfSome, IsSome, IsTrue, length};
 ghost use Rattle.std.specs.List.{sum_by};
-ghost use Rattle.rm_sets.specs.Sets.{IsSetBelow};
 ghost use Rattle.rm_market.specs.Board.{contract_count};
 ghost use Rattle.rm_choice.specs.Size.{Fits};
 ghost use Rattle.rm_flexible_laws.specs.Region.{IsRegion};
@@ -13,6 +12,7 @@ use rm_board::TieRule;
 use rm_choice::{ChoiceHolder, Holder, Outcome};
 use rm_laminar::Tree;
 use rm_ranks::{Lists, ListsBuilder};
+use rm_samples::is_set;
 use rm_steps::Steps;
 use std::alloc::{AllocError, Global};
 use std::test::Fail;
@@ -115,21 +115,6 @@ fn two_seats(alloc: Global, cap: u32, first: Seat, second: Seat) -> Result<Regio
     seats.push(first)?;
     seats.push(second)?;
     Ok(Region::new(cap, seats))
-}
-
-// Whether numbers are strictly ascending and below n.
-fn is_set(n: u32, xs: &[u32]) -> bool
-    ensures { IsTrue result → IsSetBelow n xs.now }
-{
-    for i in 0..xs.len() {
-        if xs[i] >= n {
-            return false;
-        }
-        if i > 0 && xs[i - 1] >= xs[i] {
-            return false;
-        }
-    }
-    true
 }
 
 // Whether the region of two hospitals keeps these of the applicants.

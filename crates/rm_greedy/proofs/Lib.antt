@@ -4,4 +4,3 @@ pub mod FirstOfHeads
 pub mod Firsts
 pub mod Steps
 pub mod Marked
-pub mod OneHospital

@@ -1,4 +1,3 @@
 // Checks of journals of a folder in memory.
 
 mod checks;
-mod folders;

@@ -7,6 +7,7 @@ pub mod ListOfLists
 pub mod Loops
 pub mod Members
 pub mod Parents
+pub mod Spans
 pub mod Told
 pub mod Order
 pub mod Trees

@@ -1,12 +1,13 @@
 -- The node just outside a node is the next in each chain.
-use Rattle.std.proofs.Common.{◌≡◌, ◌∙◌, ℕ, zero, suc, ◌+◌, ◌<◌, List, [], ◌∷◌, Bool, true, ◌&&◌, ◌⊎◌, ltb, filter, get_or, length, drop, refl, sym, subst, inl, inr, ⊎_elim, arith, ltb-true, add-one}
+use Rattle.std.proofs.Common.{◌≡◌, ◌∙◌, ℕ, zero, suc, ◌+◌, ◌<◌, List, [], ◌∷◌, Bool, true, ◌&&◌, ◌⊎◌, ltb, filter, get_or, length, drop, refl, sym, ap, subst, inl, inr, ⊎_elim, arith, ltb-true, add-one}
 use Rattle.std.specs.List.{slice_get}
-use Rattle.std.proofs.lemmas.Bool.{lt-ltb, and_parts, and_from}
+use Rattle.std.proofs.lemmas.Bool.{cases_eq, eq-eqb, ne_eqb, lt-ltb, and_parts, and_from}
 use Rattle.rm_sets.specs.Sets.{has, IsIn}
 use Rattle.rm_sets.proofs.Sets.{IsIn-later, IsIn-cases, same_tests, IsSet-filter, IsSet-all_below}
-use Rattle.rm_sets.proofs.Members.{IsIn-get_or}
+use Rattle.rm_sets.proofs.Members.{not_in_nil, IsIn-get_or}
 use Rattle.rm_market.specs.Tree.{below, is_inside, in_order, parent}
 use Rattle.rm_laminar.specs.Chains.{IsOrdered, IsLaminar, IsOrderedChain}
+use Rattle.rm_laminar.specs.Walk.{around, nodes_from}
 use Rattle.rm_laminar.proofs.Order.{same_ordered, has-in_order, in_order-ordered}
 use Rattle.rm_laminar.proofs.Laminar.{Holds, inside-asymmetric, inside-order, inside-within, chain-holds, holds-chain, has-below}
 
@@ -42,9 +43,10 @@ get-drop xs zero = refl
 get-drop [] (suc i) = refl
 get-drop (x ∷ xs) (suc i) = get-drop xs i
 
-pub parent-next : (sets : List (List ℕ)) → IsLaminar sets → (leaf i k : ℕ) (nodes : List ℕ) → IsOrderedChain sets leaf nodes → i < length nodes → get_or nodes i 0 ≡ k → parent sets k ≡ slice_get nodes (i + 1)
-unfolding parent
-parent-next sets l leaf i k nodes c lt at =
+-- the nodes outside the one at place i are those that follow
+pub outside-next : (sets : List (List ℕ)) → IsLaminar sets → (leaf i k : ℕ) (nodes : List ℕ) → IsOrderedChain sets leaf nodes → i < length nodes → get_or nodes i 0 ≡ k
+    → in_order (is_inside sets) (filter (is_inside sets k) (below (length sets))) ≡ drop (suc i) nodes
+outside-next sets l leaf i k nodes c lt at =
     let s = splits (is_inside sets) nodes i c.ordered lt in
     let holds : Holds sets leaf k = chain-holds sets leaf k nodes c (subst (λ (x : ℕ). IsIn x nodes) at (IsIn-get_or nodes i 0 lt)) in
     let outside : List ℕ = filter (is_inside sets k) (below (length sets)) in
@@ -54,7 +56,7 @@ parent-next sets l leaf i k nodes c lt at =
     record { node = ltb-true x (length sets) both.0; has_leaf = inside-within sets k x both.1 leaf holds.has_leaf }
     in
     let ordered = in_order-ordered (Holds sets leaf) (is_inside sets) (inside-order sets l leaf) outside (IsSet-filter (is_inside sets k) (below (length sets)) (IsSet-all_below (length sets) (λ j. true))) grown in
-    let same : in_order (is_inside sets) outside ≡ drop (suc i) nodes = same_ordered (is_inside sets) (inside-asymmetric sets) (in_order (is_inside sets) outside) (drop (suc i) nodes) ordered s.rest
+    same_ordered (is_inside sets) (inside-asymmetric sets) (in_order (is_inside sets) outside) (drop (suc i) nodes) ordered s.rest
     (λ x. has-in_order (is_inside sets) outside x ∙ same_tests (has x outside) (has x (drop (suc i) nodes))
     (λ j.
     let inside : is_inside sets k x ≡ true = (and_parts (ltb x (length sets)) (is_inside sets k x) (sym (there x) ∙ j)).1 in
@@ -63,5 +65,29 @@ parent-next sets l leaf i k nodes c lt at =
     (λ before. inside-asymmetric sets k x inside (subst (λ (y : ℕ). is_inside sets x y ≡ true) at before))
     no)) (s.others x (holds-chain sets leaf x nodes c (grown x j))))
     (λ j. there x ∙ and_from (ltb x (length sets)) (is_inside sets k x) (lt-ltb x (length sets) (chain-holds sets leaf x nodes c (s.member x j)).node) (subst (λ (y : ℕ). is_inside sets y x ≡ true) at (s.after x j))))
-    in
-    rw (same, add-one i) (get-drop nodes (suc i))
+
+pub parent-next : (sets : List (List ℕ)) → IsLaminar sets → (leaf i k : ℕ) (nodes : List ℕ) → IsOrderedChain sets leaf nodes → i < length nodes → get_or nodes i 0 ≡ k → parent sets k ≡ slice_get nodes (i + 1)
+unfolding parent
+parent-next sets l leaf i k nodes c lt at = rw (outside-next sets l leaf i k nodes c lt at, add-one i) (get-drop nodes (suc i))
+
+-- ---- the nodes of a chain from a node on
+
+pub record Stands (nodes : List ℕ) (k : ℕ) : Type 0 where
+  pub place : ℕ
+  pub short : place < length nodes
+  pub here : get_or nodes place 0 ≡ k
+  pub from : nodes_from k nodes ≡ k ∷ drop (suc place) nodes
+
+pub stands : (nodes : List ℕ) (k : ℕ) → IsIn k nodes → Stands nodes k
+stands [] k i = absurd (not_in_nil k i)
+stands (x ∷ xs) k i = ⊎_elim
+    (λ (same : k ≡ x). record { place = 0; short = omega arith; here = sym same; from = rw (eq-eqb x k (sym same), sym same) refl })
+    (λ apart. let s = stands xs k (⊎_elim (λ e. absurd (apart e)) (λ later. later) (IsIn-cases k x xs i)) in
+    record { place = suc s.place; short = (let lt = s.short in omega arith); here = s.here; from = rw (ne_eqb x k (λ e. apart (sym e))) s.from })
+    (cases_eq k x)
+
+pub around-is : (sets : List (List ℕ)) → IsLaminar sets → (leaf k : ℕ) (nodes : List ℕ) → IsOrderedChain sets leaf nodes → IsIn k nodes → nodes_from k nodes ≡ around sets k
+unfolding around
+around-is sets l leaf k nodes c i =
+    let s = stands nodes k i in
+    s.from ∙ ap (λ (xs : List ℕ). k ∷ xs) (sym (outside-next sets l leaf s.place k nodes c s.short s.here))

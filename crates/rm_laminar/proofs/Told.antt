@@ -1,15 +1,13 @@
 -- Chains tell the groups that they were built of.
-use Rattle.std.proofs.Common.{◌≡◌, ◌∙◌, ℕ, zero, suc, ◌+◌, ◌-◌, ◌<◌, ◌≤◌, List, [], ◌∷◌, ◌++◌, Bool, true, false, eqb, get_or, length, map, refl, sym, ap, ⊎_elim, arith, length-append, fold, max, position, Some, None, Vec, All, eqb-true}
+use Rattle.std.proofs.Common.{◌≡◌, ◌∙◌, ℕ, zero, suc, ◌+◌, ◌-◌, ◌<◌, ◌≤◌, List, [], ◌∷◌, ◌++◌, Bool, get_or, length, map, refl, sym, ap, ⊎_elim, arith, length-append, fold, max, Vec, All}
 use Rattle.std.specs.Prelude.{slice_index}
-use Rattle.std.proofs.lemmas.Bool.{cases_lt, lt-ltb, eq-eqb}
-use Rattle.std.proofs.lemmas.List.{length-map, get_or-map, get_or_append_left, get_or-append-add}
-use Rattle.rm_sets.specs.Sets.{has, IsIn, IsSetBelow, all_below}
-use Rattle.rm_sets.proofs.Members.{all_below_has, place_from_IsIn}
+use Rattle.std.proofs.lemmas.Bool.{cases_lt, lt-ltb}
+use Rattle.std.proofs.lemmas.List.{length-map, get_or-map, get_or_append_left, get_or-append-add, get_or-reverse}
+use Rattle.rm_sets.specs.Sets.{has, IsSetBelow, all_below}
+use Rattle.rm_sets.proofs.Members.{all_below_has}
 use Rattle.std.specs.declared.alloc.Global.{Global}
-use Rattle.std.specs.List.{slice_get, position_or_len}
-use Rattle.std.proofs.lemmas.List.Sums.{fails_before_first}
+use Rattle.std.specs.List.{slice_get}
 use Rattle.std.proofs.lemmas.List.{map-append}
-use Rattle.std.proofs.lemmas.List.Quantifiers.{position-Some}
 use Rattle.std.proofs.lemmas.List.Elements.{All-map, All-get_or}
 use Rattle.rm_market.specs.Tree.{below, set_of, least, sets_of_tree, tree_sets, chain, parent, depth, TreeOf}
 use Rattle.rm_laminar.specs.Chains.{chain_lists, AreChains, AreHospitalGroups}
@@ -17,7 +15,8 @@ use Rattle.rm_laminar.specs.Tree.{groups_in, told, IsTreeKept}
 use Rattle.rm_laminar.proofs.ListOfLists.{lists-length}
 use Rattle.rm_laminar.proofs.Laminar.{Holds, chain-same, holds-chain}
 use Rattle.rm_laminar.proofs.Firsts.{least-there}
-use Rattle.rm_laminar.proofs.Parents.{parent-next}
+use Rattle.rm_laminar.specs.Walk.{around, nodes_from, root}
+use Rattle.rm_laminar.proofs.Parents.{around-is}
 use Rattle.rm_laminar.proofs.Trees.{length-below, get-below, tree-length, set-hospital, set-group}
 
 same_lists : {X : Type 0} (xs ys : List X) (d : X) → length xs ≡ length ys → ((k : ℕ) → k < length ys → get_or xs k d ≡ get_or ys k d) → xs ≡ ys
@@ -108,34 +107,26 @@ pub kept-depth : (t : TreeOf) (chains : List (List ℕ)) (firsts : List ℕ) →
 unfolding depth
 kept-depth t chains firsts k = rw k.built.each_hospital (ap (fold max 0) (same-depth (λ h. length (get_or chains h [])) (λ h. length (chain (sets_of_tree t) h)) t.hospitals (λ h lt. ap length (kept-chain t chains firsts h k lt))))
 
--- the next node in the chain of a node's least hospital
-pub kept-parent : (t : TreeOf) (chains : List (List ℕ)) (firsts : List ℕ) (k i : ℕ) → IsTreeKept t chains firsts → k < length (sets_of_tree t) → position (λ j. eqb j k) (get_or chains (get_or firsts k 0) []) ≡ Some i
-    → slice_get (get_or chains (get_or firsts k 0) []) (i + 1) ≡ parent (sets_of_tree t) k
-kept-parent t chains firsts k i kept lt e =
+-- a node and those outside it, in the chain of its least hospital
+pub kept-around : (t : TreeOf) (chains : List (List ℕ)) (firsts : List ℕ) (k : ℕ) → IsTreeKept t chains firsts → k < length (sets_of_tree t) → nodes_from k (get_or chains (get_or firsts k 0) []) ≡ around (sets_of_tree t) k
+kept-around t chains firsts k kept lt =
     let first = kept-first t chains firsts k kept lt in
-    let place = position-Some (λ j. eqb j k) (get_or chains (get_or firsts k 0) []) i 0 e in
-    sym (parent-next (sets_of_tree t) kept.built.laminar (get_or firsts k 0) i k (get_or chains (get_or firsts k 0) []) (kept.built.chains (get_or firsts k 0) first.1) place.0 (eqb-true (get_or (get_or chains (get_or firsts k 0) []) i 0) k place.1))
+    let each = kept.built.chains (get_or firsts k 0) first.1 in
+    around-is (sets_of_tree t) kept.built.laminar (get_or firsts k 0) k (get_or chains (get_or firsts k 0) []) each (holds-chain (sets_of_tree t) (get_or firsts k 0) k (get_or chains (get_or firsts k 0) []) each first.0)
 
-differ : (n : ℕ) → Some n ≡ None → ⊥
-differ n e = cc
+pub parent-around : (sets : List (List ℕ)) (k : ℕ) → slice_get (around sets k) 1 ≡ parent sets k
+unfolding around parent
+parent-around sets k = refl
 
-both : (b : Bool) → b ≡ true → b ≡ false → ⊥
-both b p q = cc
+pub around-some : (sets : List (List ℕ)) (k : ℕ) → 1 ≤ length (around sets k)
+unfolding around
+around-some sets k = omega arith
 
-nowhere : (xs : List ℕ) (k : ℕ) → IsIn k xs → position (λ j. eqb j k) xs ≡ None → ⊥
-nowhere xs k i e =
-    let p = place_from_IsIn xs k 0 i in
-    let test : ℕ → Bool = λ j. eqb j k in
-    ⊎_elim
-    (λ (less : position_or_len test xs < length xs). let some : position test xs ≡ Some (position_or_len test xs) = rw (lt-ltb (position_or_len test xs) (length xs) less) refl in differ (position_or_len test xs) (sym some ∙ e))
-    (λ (le : length xs ≤ position_or_len test xs). both (eqb (get_or xs p.0 0) k) (eq-eqb (get_or xs p.0 0) k p.2) (fails_before_first test xs p.0 0 (let lt = p.1 in omega arith)))
-    (cases_lt (position_or_len test xs) (length xs))
-
-pub some-place : (t : TreeOf) (chains : List (List ℕ)) (firsts : List ℕ) (k : ℕ) → IsTreeKept t chains firsts → k < length (sets_of_tree t) → position (λ j. eqb j k) (get_or chains (get_or firsts k 0) []) ≡ None → ⊥
-some-place t chains firsts k kept lt e =
-    let first = kept-first t chains firsts k kept lt in
-    let there = holds-chain (sets_of_tree t) (get_or firsts k 0) k (get_or chains (get_or firsts k 0) []) (kept.built.chains (get_or firsts k 0) first.1) first.0 in
-    nowhere (get_or chains (get_or firsts k 0) []) k there e
+pub root-around : (sets : List (List ℕ)) (k : ℕ) → get_or (around sets k) (length (around sets k) - 1) 0 ≡ root sets k
+unfolding root
+root-around sets k =
+    let last : length (around sets k) - 1 - 0 ≡ length (around sets k) - 1 = omega arith in
+    sym (get_or-reverse (around sets k) 0 0 (let some = around-some sets k in omega (arith, some)) ∙ ap (λ (i : ℕ). get_or (around sets k) i 0) last)
 
 -- the least hospitals of the nodes, by number
 pub kept-firsts : (hospitals : ℕ) (groups chains : List (List ℕ)) (firsts : List ℕ) → AreHospitalGroups hospitals groups → AreChains hospitals groups chains → firsts ≡ below hospitals ++ map (λ g. slice_index g 0) groups

@@ -1,16 +1,17 @@
 //! The tree of a market's nodes, built from groups of hospitals.
 #![tactic(auto)]
 
-ghost use Rattle.std.specs.Prelude.{◌≡◌, ◌+◌, ◌<◌, ◌≤◌, ℕ, List, [], ◌∷◌, ◌++◌, length, map, get_or, slice_index, All, IfOk, fold, max, position, slice_get, ◌==◌};
+ghost use Rattle.std.specs.Prelude.{◌≡◌, ◌+◌, ◌<◌, ◌≤◌, ℕ, List, [], ◌∷◌, ◌++◌, length, map, get_or, slice_index, All, IfOk, fold, max, slice_get};
 ghost use Rattle.rm_sets.specs.Sets.{IsSetBelow};
 ghost use Rattle.rm_market.specs.Tree.{below, tree_fault, sets_of_tree, chain, children, members, parent, depth};
 ghost use Rattle.rm_laminar.specs.Chains.{chain_lists, AreChains, AreHospitalGroups};
 ghost use Rattle.rm_laminar.specs.Tree.{told, IsTreeKept, AreChildren, AreMembers, BuildsTree};
+ghost use Rattle.rm_laminar.specs.Walk.{nodes_from, around, node_walk, root, IsSpan, IsWalk};
 
 use crate::chains::chains_of;
 use crate::children::children_of;
 use crate::lists::Lists;
-use crate::walk::members_of;
+use crate::walk::{Walk, members_of, walk_of};
 use rm_base::codes::{MOST_DEPTH, MOST_GROUPS, MOST_HOSPITALS};
 use rm_lists::Lists as PackedLists;
 pub use rm_market::TreeFault;
@@ -22,6 +23,13 @@ mod children;
 mod lists;
 mod walk;
 
+/// Positions in the walk of a tree's nodes, from the first on and before the one past them. They count from 0.
+#[derive(Clone, Copy, Debug, PartialEq, Eq)]
+pub struct Span {
+    pub first: u32,
+    pub past: u32,
+}
+
 /// The tree of hospitals and groups: of two nodes one contains the other, or they share no hospital. Node h is the
 /// hospital h alone, and node `hospitals + g` is the group g. Of two equal sets the later declared one is outside.
 #[derive(Drop)]
@@ -30,19 +38,23 @@ pub struct Tree {
     firsts: Vec<u32>,
     children: PackedLists<u32>,
     members: PackedLists<u32>,
+    walk: Walk,
 }
 
 impl Model for Tree {
     ghost use Rattle.std.specs.Prelude.{length};
     ghost use Rattle.rm_market.specs.Tree.{TreeOf};
+    ghost use Rattle.rm_market.specs.Tree.{sets_of_tree};
     ghost use Rattle.rm_laminar.specs.Tree.{told, IsTreeKept, AreChildren, AreMembers};
+    ghost use Rattle.rm_laminar.specs.Walk.{IsWalk};
 
     ghost Value = { TreeOf };
 
     ghost view = { λ t. told (length t.firsts.items) t.chains };
 
     ghost invariant = { λ t. IsTreeKept (told (length t.firsts.items) t.chains) t.chains t.firsts.items
-        × AreChildren (told (length t.firsts.items) t.chains) t.children × AreMembers (told (length t.firsts.items) t.chains) t.members };
+        × AreChildren (told (length t.firsts.items) t.chains) t.children × AreMembers (told (length t.firsts.items) t.chains) t.members
+        × IsWalk (sets_of_tree (told (length t.firsts.items) t.chains)) t.walk.nodes.items t.walk.places.items t.walk.pasts.items };
 }
 
 // The least hospital of each node.
@@ -60,18 +72,23 @@ fn firsts_of(alloc: Global, hospitals: u32, groups: &[Vec<u32>]) -> Result<Vec<u
     Ok(firsts)
 }
 
-// The place of a node in a chain.
-fn place_of(chain: &[u32], node: u32) -> Option<usize>
-    ensures { result ≡ position (λ k. k == node) chain.now }
+// The nodes of a chain from a node on.
+fn nodes_from(node: u32, chain: &[u32]) -> &[u32]
+    ensures { result.now ≡ nodes_from node chain.now }
 {
-    chain.iter().position(|k| *k == node)
+    for i in 0..chain.len() {
+        if chain[i] == node {
+            return &chain[i..];
+        }
+    }
+    &[]
 }
 
-// The item at a place of a chain.
-fn item(chain: &[u32], place: usize) -> Option<u32>
-    ensures { result ≡ slice_get chain.now place }
+// The item at a place of a list.
+fn item(list: &[u32], place: usize) -> Option<u32>
+    ensures { result ≡ slice_get list.now place }
 {
-    chain.get(place).copied()
+    list.get(place).copied()
 }
 
 // The greatest length of a chain.
@@ -94,10 +111,12 @@ fn packed_tree(
     firsts: Vec<u32>,
     children: &Lists,
     members: &Lists,
+    walk: Walk,
 ) -> Result<Tree, AllocError>
     requires kept { IsTreeKept (told (length firsts.items) chains.now) chains.now firsts.items }
     requires children { AreChildren (told (length firsts.items) chains.now) children.now }
     requires members { AreMembers (told (length firsts.items) chains.now) members.now }
+    requires walk { IsWalk (sets_of_tree (told (length firsts.items) chains.now)) walk.nodes.items walk.places.items walk.pasts.items }
     ensures { IfOk result (λ t. t ≡ told (length firsts.items) chains.now) }
 {
     Ok(Tree {
@@ -105,6 +124,7 @@ fn packed_tree(
         firsts,
         children: children.packed(alloc)?,
         members: members.packed(alloc)?,
+        walk,
     })
 }
 
@@ -128,10 +148,13 @@ impl Tree {
         let Ok(children) = children_of(alloc, &chains, groups, &firsts) else {
             return Err(TreeFault::NoMemory);
         };
-        let Ok(members) = members_of(alloc, &chains, groups, &firsts) else {
+        let Ok(walk) = walk_of(alloc, &chains, groups, &firsts) else {
             return Err(TreeFault::NoMemory);
         };
-        let Ok(tree) = packed_tree(alloc, &chains, firsts, &children, &members) else {
+        let Ok(members) = members_of(alloc, &chains, groups, &walk.nodes) else {
+            return Err(TreeFault::NoMemory);
+        };
+        let Ok(tree) = packed_tree(alloc, &chains, firsts, &children, &members, walk) else {
             return Err(TreeFault::NoMemory);
         };
         Ok(tree)
@@ -181,11 +204,44 @@ impl Tree {
         requires { node < length (sets_of_tree self.now) }
         ensures { result ≡ parent (sets_of_tree self.now) node }
     {
-        let chain = self.chains.list(self.firsts[node as usize]);
-        match place_of(chain, node) {
-            Some(place) => item(chain, place + 1),
-            None => None,
+        item(self.around(node), 1)
+    }
+
+    // A node and the nodes outside it, innermost first.
+    fn around(&self, node: u32) -> &[u32]
+        requires { node < length (sets_of_tree self.now) }
+        ensures { result.now ≡ around (sets_of_tree self.now) node }
+    {
+        nodes_from(node, self.chains.list(self.firsts[node as usize]))
+    }
+
+    /// The positions in the walk of a node, as the first, and of all nodes inside it. The walk has each node once. In it
+    /// stand the roots, and the children of a node after it, by their least hospital, each followed by all nodes inside it.
+    pub fn span(&self, node: u32) -> Span
+        requires { node < length (sets_of_tree self.now) }
+        ensures { IsSpan (sets_of_tree self.now) node result }
+    {
+        Span {
+            first: self.walk.places[node as usize],
+            past: self.walk.pasts[node as usize],
         }
+    }
+
+    /// The node at a position of the walk. Positions count from 0 and are below the number of nodes.
+    pub fn node_at(&self, position: u32) -> u32
+        requires { position < length (sets_of_tree self.now) }
+        ensures { result ≡ slice_index (node_walk (sets_of_tree self.now)) position }
+    {
+        self.walk.nodes[position as usize]
+    }
+
+    /// The outermost node that contains a node: itself where no node is outside it.
+    pub fn root(&self, node: u32) -> u32
+        requires { node < length (sets_of_tree self.now) }
+        ensures { result ≡ root (sets_of_tree self.now) node }
+    {
+        let outward = self.around(node);
+        outward[outward.len() - 1]
     }
 
     /// The greatest number of nodes that contain one hospital, 0 without hospitals.

@@ -97,6 +97,13 @@ fn is_as_wanted(tree: &Tree) -> bool {
         && tree.children(7) == [5].as_slice()
         && tree.parent(4) == Some(5)
         && tree.parent(7) == None
+        && tree.root(1) == 7
+        && tree.root(6) == 6
+        && tree.span(7) == Span { first: 0, past: 6 }
+        && tree.span(6) == Span { first: 6, past: 8 }
+        && tree.span(4) == Span { first: 2, past: 5 }
+        && tree.node_at(0) == 7
+        && tree.node_at(5) == 1
 }
 
 #[test]

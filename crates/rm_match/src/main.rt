@@ -3,7 +3,7 @@
 
 ghost use Rattle.std.specs.Prelude.{◌≡◌, ℕ, List, map, string_bytes};
 ghost use Rattle.std.specs.Process.{exit_status};
-ghost use Rattle.rm_top.specs.Answers.{written, WroteText, IsErrorText, Reports};
+ghost use Rattle.rm_top.specs.Answers.{IsWritten, WroteText, IsObjectedWhere, IsErrorText, Reports};
 ghost use Rattle.rm_top.specs.Command.{command_of};
 
 use rm_outside::folder::FolderShelf;
@@ -23,7 +23,8 @@ fn words(rt: &HostRuntime) -> io::Result<Vec<String>> {
     Ok(words)
 }
 
-// Does what the words say, and ends with the status of that: with 0 `out` gained the text, and what `err` gained says which status it is.
+// Does what the words say, and ends with the status of that: with 0 and 1 `out` gained the text, 1 says that the text objects to something, and what
+// `err` gained says which other status it is.
 fn perform<S: Shelf, O: Sink, E: Sink>(
     alloc: Global,
     words: &[String],
@@ -31,7 +32,8 @@ fn perform<S: Shelf, O: Sink, E: Sink>(
     out: &mut O,
     err: &mut E,
 ) -> ExitCode
-    ensures text { exit_status result ≡ written
+    ensures objected { IsObjectedWhere (S.files shelf.old) (command_of (map string_bytes words.now)) (exit_status result) }
+    ensures text { IsWritten (exit_status result)
         → WroteText (S.files shelf.old) (command_of (map string_bytes words.now)) (O.written out.old) (O.written out.new) }
     ensures told { (text : List ℕ) × IsErrorText (S.files shelf.old) (S.blame shelf.new) (command_of (map string_bytes words.now)) (exit_status result) text
         × Reports (E.faults err.old) (E.faults err.new) (E.written err.old) (E.written err.new) text }

@@ -41,7 +41,7 @@ impl TornSink {
         })
     }
 
-    /// What was written.
+    /// What it took, the part of a torn put too.
     pub fn bytes(&self) -> &[u8]
         ensures { result.now ≡ self.now.bytes }
     {

@@ -1,5 +1,5 @@
 -- The entries of prefectures and of groups, read one after another.
-use Rattle.std.proofs.Common.{◌≡◌, ◌∙◌, ◌+◌, ◌<◌, ◌≤◌, ℕ, ℤ, List, [], ◌∷◌, ◌++◌, length, get_or, map, Some, None, refl, ap, sym, arith, length-append}
+use Rattle.std.proofs.Common.{◌≡◌, ◌∙◌, ◌+◌, ◌<◌, ◌≤◌, Bool, true, ℕ, ℤ, List, [], ◌∷◌, ◌++◌, length, get_or, map, Some, None, refl, ap, sym, arith, length-append}
 use Rattle.std.proofs.lemmas.List.{length-map, map_push}
 use Rattle.std.proofs.lemmas.List.Sums.{fold_push}
 use Rattle.toml.specs.Data.{Data}
@@ -12,11 +12,12 @@ use Rattle.rm_base.specs.declared.Refusal.{Refusal}
 use Rattle.rm_roster.specs.Roster.{RosterData}
 use Rattle.rm_base.specs.Text.{Text}
 use Rattle.rm_policy.specs.Gathered.{united}
-use Rattle.rm_policy.specs.Entries.{name_of_entry, numbers_of}
+use Rattle.rm_policy.specs.Entries.{is_present, name_of_entry, numbers_of}
 use Rattle.rm_policy.specs.Groups.{GroupsData, PrefecturesData, groups_named, hospitals_named, prefectures_named, steps_of_group, with_entry, group_entry_checks, group_checks_after, groups_of, no_groups, no_prefectures, prefectures_of, with_group, with_prefecture}
 use Rattle.rm_policy.specs.Prefectures.{members_of_prefecture, order_in, prefecture_checks, prefecture_checks_after}
 use Rattle.rm_policy.specs.Steps.{cap_in, flat}
 use Rattle.rm_policy.specs.declared.Kind.{Kind}
+use Rattle.rm_policy.specs.declared.keys.Key.TheVariants as key
 use Rattle.rm_policy.proofs.ElementLemmas.{AreSeen, seen-none, seen-more, seen-stop, seen-all}
 
 -- ---- prefectures
@@ -39,7 +40,7 @@ prefecture-at r kind before told d e = ap (λ (names : List (List ℕ)). first_o
 
 prefectures-push : (r : RosterData) (before : List Data) (d : Data) → with_prefecture r (prefectures_of r before) d ≡ prefectures_of r (before ++ d ∷ [])
 prefectures-push r before d =
-    rw (map_push name_of_entry before d, map_push (members_of_prefecture r) before d, map_push (λ e. flat (cap_in e)) before d, map_push (order_in r) before d) refl
+    rw (map_push name_of_entry before d, map_push (members_of_prefecture r) before d, map_push (λ e. flat (cap_in e)) before d, map_push (λ _. true) before d, map_push (order_in r) before d) refl
 
 pub prefectures-more : (r : RosterData) (kind : Kind) (vs : List Value) (i : ℕ) (v : Value) (told new : PrefecturesData) → ArePrefectures r kind vs i told → i < length vs → v ≡ get_or vs i v
     → first_of (prefecture_checks r kind told.groups.names (view v)) ≡ None → new ≡ with_prefecture r told (view v) → length told.groups.names < 5000 → ArePrefectures r kind vs (i + 1) new
@@ -105,10 +106,10 @@ groups-all r first vs i told a h =
     (done.0, a.told_is ∙ ap (groups_of r) (sym done.1), omega (arith, h, a.place, a.few))
 
 -- what is added is the next group
-pub group-added : (r : RosterData) (g : GroupsData) (d : Data) (new : GroupsData) (name : Text) (members : List ℕ) (steps : List ℤ) (hs ps gs : List ℕ) (sets : List (List ℕ))
-    → new ≡ with_entry g name members steps → name ≡ name_of_entry d → steps ≡ steps_of_group d → members ≡ united r hs ps sets gs → hs ≡ numbers_of r.hospitals (hospitals_named d) → ps ≡ numbers_of r.prefectures (prefectures_named d)
+pub group-added : (r : RosterData) (g : GroupsData) (d : Data) (new : GroupsData) (name : Text) (members : List ℕ) (steps : List ℤ) (by_cap : Bool) (hs ps gs : List ℕ) (sets : List (List ℕ))
+    → new ≡ with_entry g name members steps by_cap → name ≡ name_of_entry d → steps ≡ steps_of_group d → by_cap ≡ is_present key.Cap d → members ≡ united r hs ps sets gs → hs ≡ numbers_of r.hospitals (hospitals_named d) → ps ≡ numbers_of r.prefectures (prefectures_named d)
     → sets ≡ g.members → gs ≡ numbers_of g.names (groups_named d) → new ≡ with_group r g d
-group-added r g d new name members steps hs ps gs sets is name_is steps_is members_are hs_are ps_are sets_are gs_are = is ∙ rw (name_is, steps_is, members_are, hs_are, ps_are, sets_are, gs_are) refl
+group-added r g d new name members steps by_cap hs ps gs sets is name_is steps_is cap_is members_are hs_are ps_are sets_are gs_are = is ∙ rw (name_is, steps_is, cap_is, members_are, hs_are, ps_are, sets_are, gs_are) refl
 
 -- the same by the names that are kept
 pub group-fault : (r : RosterData) (first : ℕ) (names same : List Text) (d : Data) (fault : ReadFault) → names ≡ same → Stops (first_of (group_entry_checks r first names d)) fault → Stops (first_of (group_entry_checks r first same d)) fault

@@ -1,5 +1,5 @@
 -- Small policies, and the first reason for which each is refused.
-use Rattle.std.proofs.Common.{◌≡◌, ℕ, [], ◌∷◌, ◌++◌, Option, Some, None, refl, map, codes, replicate, pos}
+use Rattle.std.proofs.Common.{◌≡◌, true, false, ℕ, [], ◌∷◌, ◌++◌, Option, Some, None, refl, map, codes, replicate, pos}
 use Rattle.std.specs.Prelude.{flat_map, option_map}
 use Rattle.toml.specs.Data.{table, no_members}
 use Rattle.rm_base.specs.Checks.{first_of}
@@ -137,7 +137,7 @@ told : option_map (policy_of roster) (document_of (steps (codes "ties = \"listed
       kind = kinds.Steps;
       ties = tie.Listed;
       listed = record { doctor = Some 1; hospital = Some 1 } ∷ record { doctor = None; hospital = Some 2 } ∷ [];
-      groups = record { names = codes "P" ∷ codes "g" ∷ codes "f" ∷ []; members = (0 ∷ 1 ∷ []) ∷ (1 ∷ []) ∷ (1 ∷ 2 ∷ []) ∷ []; steps = (pos 0 ∷ pos 0 ∷ []) ∷ (pos 5 ∷ pos 2 ∷ pos 1 ∷ []) ∷ (pos 0 ∷ []) ∷ [] };
+      groups = record { names = codes "P" ∷ codes "g" ∷ codes "f" ∷ []; members = (0 ∷ 1 ∷ []) ∷ (1 ∷ []) ∷ (1 ∷ 2 ∷ []) ∷ []; steps = (pos 0 ∷ pos 0 ∷ []) ∷ (pos 5 ∷ pos 2 ∷ pos 1 ∷ []) ∷ (pos 0 ∷ []) ∷ []; by_cap = true ∷ false ∷ true ∷ [] };
       orders = Some (1 ∷ 0 ∷ []) ∷ [];
       hospital_steps = None ∷ Some (pos 7 ∷ []) ∷ None ∷ [];
     })

@@ -1,5 +1,5 @@
 -- What reading the entries of groups and of hospitals answers.
-use Rattle.std.specs.Prelude.{◌≡◌, ◌≤◌, ℕ, ℤ, List, [], map, Option, Some, None, Result, Ok, Err}
+use Rattle.std.specs.Prelude.{◌≡◌, ◌≤◌, Bool, true, false, ℕ, ℤ, List, [], map, Option, Some, None, Result, Ok, Err}
 use Rattle.std.specs.Borrow.{Bor}
 use Rattle.toml.specs.Data.{Data}
 use Rattle.toml.specs.View.{view}
@@ -12,7 +12,7 @@ use Rattle.rm_base.specs.declared.Refusal.{Refusal}
 use Rattle.rm_market.specs.Steps.{steps_of}
 use Rattle.rm_market.specs.declared.Run.{Run}
 use Rattle.rm_roster.specs.Roster.{RosterData}
-use Rattle.rm_policy.specs.Entries.{name_of_entry, numbers_of}
+use Rattle.rm_policy.specs.Entries.{is_present, name_of_entry, numbers_of}
 use Rattle.rm_policy.specs.Groups.{GroupsData, group_element_checks, group_array_checks, group_checks_after, group_entry_checks, group_head_checks, group_limit_checks, group_shape_checks, groups_named, groups_of, hospitals_named, prefectures_named, steps_of_group, with_group}
 use Rattle.rm_policy.specs.Hospitals.{hospital_entry_checks, hospital_entry_checks_after, hospital_shape_checks, hospital_steps_of, steps_in}
 use Rattle.rm_policy.specs.Steps.{flat, runs_in, runs_of}
@@ -24,6 +24,7 @@ use Rattle.rm_policy.specs.declared.groups.Limit.{Limit}
 use Rattle.rm_policy.specs.declared.groups.Limit.TheVariants as limit
 use Rattle.rm_policy.specs.declared.hospitals.HospitalEntry.{HospitalEntry}
 use Rattle.rm_policy.specs.declared.hospitals.HospitalShape.{HospitalShape}
+use Rattle.rm_policy.specs.declared.keys.Key.TheVariants as key
 
 -- ---- limits
 
@@ -35,12 +36,21 @@ abbrev pub steps_of_limit : Limit → List ℤ
 steps_of_limit (limit.Cap n) = flat n
 steps_of_limit (limit.Runs values) = steps_of (runs_of (map view values.now))
 
+abbrev pub is_cap : Limit → Bool
+is_cap (limit.Cap n) = true
+is_cap (limit.Runs values) = false
+
 abbrev pub IsFit : Limit → Type 0
 IsFit (limit.Cap n) = n ≤ 1000000
 IsFit (limit.Runs values) = Unit {0}
 
 abbrev pub ReadsLimit : ℕ → Data → Result Limit Refusal → Type 0
-ReadsLimit i d (Ok l) = (first_of (group_limit_checks i d) ≡ None) × (runs_of_limit l ≡ runs_in d) × (steps_of_limit l ≡ steps_of_group d) × IsFit l
+ReadsLimit i d (Ok l) =
+    (first_of (group_limit_checks i d) ≡ None)
+    × (runs_of_limit l ≡ runs_in d)
+    × (steps_of_limit l ≡ steps_of_group d)
+    × IsFit l
+    × (is_cap l ≡ is_present key.Cap d)
 ReadsLimit i d (Err refusal) = first_of (group_limit_checks i d) ≡ Some refusal
 
 -- ---- groups
@@ -67,6 +77,7 @@ ReadsGroupShape i d (Ok s) =
     × (map view s.arrays.hospitals.now ≡ hospitals_named d)
     × (map view s.arrays.prefectures.now ≡ prefectures_named d)
     × (map view s.arrays.groups.now ≡ groups_named d)
+    × (is_cap s.limit ≡ is_present key.Cap d)
 ReadsGroupShape i d (Err refusal) = first_of (group_shape_checks i d) ≡ Some refusal
 
 abbrev pub ReadsGroupElements : RosterData → List Text → ℕ → List Data → List Data → List Data → Result Elements ReadFault → Type 0
@@ -89,6 +100,7 @@ ReadsGroup r first names d (Ok e) =
     × (e.elements.prefectures.items ≡ numbers_of r.prefectures (prefectures_named d))
     × (e.elements.groups.items ≡ numbers_of names (groups_named d))
     × (e.steps ≡ steps_of_group d)
+    × (e.by_cap ≡ is_present key.Cap d)
 ReadsGroup r first names d (Err fault) = Stops (first_of (group_entry_checks r first names d)) fault
 
 -- the entry of a value after those before it, or its first refusal

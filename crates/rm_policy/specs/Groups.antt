@@ -1,5 +1,5 @@
 -- The entries of groups.
-use Rattle.std.specs.Prelude.{ℕ, ◌+◌, Bool, false, not, ◌&&◌, ◌||◌, nat_lt, List, [], ◌∷◌, ◌++◌, length, map, get_or, fold, ℤ, Option, option_map, Vec, if◌then◌else◌}
+use Rattle.std.specs.Prelude.{ℕ, ◌+◌, Bool, true, false, not, ◌&&◌, ◌||◌, nat_lt, List, [], ◌∷◌, ◌++◌, length, map, get_or, fold, ℤ, Option, option_map, Vec, if◌then◌else◌}
 use Rattle.std.specs.List.{list_any}
 use Rattle.std.specs.Option.{option_map_or}
 use Rattle.std.specs.declared.alloc.Global.{Global}
@@ -81,18 +81,20 @@ group_checks_after r first before e = group_entry_checks r first (map name_of_en
 
 -- ---- what an entry says
 
--- groups: the name, the hospitals and the steps of each
+-- groups: the name, the hospitals and the steps of each, and whether they are given by `cap`
 pub record GroupsData : Type 0 where
   pub names : List Text
   pub members : List (List ℕ)
   pub steps : List (List ℤ)
+  pub by_cap : List Bool
 
 abbrev pub no_groups : GroupsData
-no_groups = record { names = []; members = []; steps = [] }
+no_groups = record { names = []; members = []; steps = []; by_cap = [] }
 
 -- groups, and one more
-abbrev pub with_entry : GroupsData → Text → List ℕ → List ℤ → GroupsData
-with_entry g name members steps = record { names = g.names ++ name ∷ []; members = g.members ++ members ∷ []; steps = g.steps ++ steps ∷ [] }
+abbrev pub with_entry : GroupsData → Text → List ℕ → List ℤ → Bool → GroupsData
+with_entry g name members steps by_cap =
+    record { names = g.names ++ name ∷ []; members = g.members ++ members ∷ []; steps = g.steps ++ steps ∷ []; by_cap = g.by_cap ++ by_cap ∷ [] }
 
 -- the groups of a policy, of which the first ones are those of the prefecture entries of these names
 pub record PolicyGroups : Type 0 where
@@ -104,13 +106,14 @@ abbrev pub each_set : List (Vec ℕ Global) → List (List ℕ)
 each_set sets = map (λ s. s.items) sets
 
 -- the groups of prefecture entries of these names and then those of group entries, told by what is kept of them
-abbrev pub groups_kept : List Text → List Text → List (Vec ℕ Global) → List (List ℤ) → PolicyGroups
-groups_kept entries others members steps =
-    record { entries = entries; groups = record { names = entries ++ others; members = each_set members; steps = steps } }
+abbrev pub groups_kept : List Text → List Text → List (Vec ℕ Global) → List (List ℤ) → List Bool → PolicyGroups
+groups_kept entries others members steps by_cap =
+    record { entries = entries; groups = record { names = entries ++ others; members = each_set members; steps = steps; by_cap = by_cap } }
 
 -- groups after groups
 abbrev pub groups_joined : GroupsData → GroupsData → GroupsData
-groups_joined g more = record { names = g.names ++ more.names; members = g.members ++ more.members; steps = g.steps ++ more.steps }
+groups_joined g more =
+    record { names = g.names ++ more.names; members = g.members ++ more.members; steps = g.steps ++ more.steps; by_cap = g.by_cap ++ more.by_cap }
 
 -- h lies in one of the sets of these numbers
 abbrev pub lies_in : ℕ → List (List ℕ) → List ℕ → Bool
@@ -134,13 +137,13 @@ abbrev pub steps_of_group : Data → List ℤ
 steps_of_group e = if is_present key.Cap e then flat (cap_in e) else steps_of (runs_in e)
 
 abbrev pub with_group : RosterData → GroupsData → Data → GroupsData
-with_group r g e = with_entry g (name_of_entry e) (members_of_group r g e) (steps_of_group e)
+with_group r g e = with_entry g (name_of_entry e) (members_of_group r g e) (steps_of_group e) (is_present key.Cap e)
 
 -- the groups of entries, each over those before it
 abbrev pub groups_of : RosterData → List Data → GroupsData
 groups_of r entries = fold (with_group r) no_groups entries
 
--- the groups of prefecture entries, and their orders
+-- the groups of prefecture entries, which must have a `cap`, and their orders
 pub record PrefecturesData : Type 0 where
   pub groups : GroupsData
   pub orders : List (Option (List ℕ))
@@ -150,11 +153,16 @@ no_prefectures = record { groups = no_groups; orders = [] }
 
 abbrev pub with_prefecture : RosterData → PrefecturesData → Data → PrefecturesData
 with_prefecture r p e =
-    record { groups = with_entry p.groups (name_of_entry e) (members_of_prefecture r e) (flat (cap_in e)); orders = p.orders ++ order_in r e ∷ [] }
+    record { groups = with_entry p.groups (name_of_entry e) (members_of_prefecture r e) (flat (cap_in e)) true; orders = p.orders ++ order_in r e ∷ [] }
 
 abbrev pub prefectures_of : RosterData → List Data → PrefecturesData
 prefectures_of r entries =
     record {
-      groups = record { names = map name_of_entry entries; members = map (members_of_prefecture r) entries; steps = map (λ e. flat (cap_in e)) entries };
+      groups = record {
+        names = map name_of_entry entries;
+        members = map (members_of_prefecture r) entries;
+        steps = map (λ e. flat (cap_in e)) entries;
+        by_cap = map (λ _. true) entries;
+      };
       orders = map (order_in r) entries;
     }

@@ -1,5 +1,6 @@
 -- The policy of a document and a roster, or its first refusal.
-use Rattle.std.specs.Prelude.{◌≡◌, ◌≤◌, Result, Ok, Err, ℕ, ◌+◌, List, [], ◌∷◌, ◌++◌, length, map, take, filter_map, ℤ, Option, Some, None, option_map}
+use Rattle.std.specs.Prelude.{◌≡◌, ◌≤◌, Result, Ok, Err, Bool, true, false, ℕ, ◌+◌, List, [], ◌∷◌, ◌++◌, All, length, get_or, map, take, drop, filter_map, ℤ, pos, Option, Some, None, option_map}
+use Rattle.std.specs.Option.{option_or}
 use Rattle.toml.specs.Data.{Data}
 use Rattle.toml.specs.View.{view}
 use Rattle.toml.specs.declared.value.Value.{Value}
@@ -49,12 +50,18 @@ pub record PolicyData : Type 0 where
   pub orders : List (Option (List ℕ))
   pub hospital_steps : List (Option (List ℤ))
 
+-- the groups that are given by `cap` have steps of 0
+abbrev pub CapsAreFlat : List Bool → List (List ℤ) → Type 0
+CapsAreFlat by_cap steps = (g : ℕ) → get_or by_cap g false ≡ true → All (λ z. z ≡ pos 0) (get_or steps g [])
+
 -- what holds of every policy: the names, the hospitals and the steps are as many, and not too many
 pub record IsPolicy (p : PolicyData) : Type 0 where
   pub names_each : length p.groups.names ≡ length p.groups.members
   pub steps_each : length p.groups.steps ≡ length p.groups.members
   pub few_groups : length p.groups.members ≤ MOST_GROUPS
   pub few_orders : length p.orders ≤ length p.groups.members
+  pub by_cap_each : length p.groups.by_cap ≡ length p.groups.members
+  pub caps_flat : CapsAreFlat p.groups.by_cap p.groups.steps
 
 -- a policy by its parts
 abbrev pub policy_with : Kind → Ties → List ListedPair → PolicyGroups → List (Option (List ℕ)) → List (Option (List ℤ)) → PolicyData
@@ -64,6 +71,13 @@ policy_with kind ties listed all orders hospital_steps =
 -- the names of the prefecture entries, which come first
 abbrev pub entry_names : PolicyData → List Text
 entry_names p = take (length p.orders) p.groups.names
+
+-- the group of this name: it is looked for among the group entries, and where none has it among the prefecture entries
+abbrev pub group_among : List Text → List Text → Text → Option ℕ
+group_among entries others name = option_or (option_map (λ k. length entries + k) (place_of others name)) (place_of entries name)
+
+abbrev pub group_named : PolicyData → Text → Option ℕ
+group_named p name = group_among (entry_names p) (drop (length p.orders) p.groups.names) name
 
 -- what is kept with a policy: the names of its prefecture entries
 pub record IsPolicyKept (entries : List Text) (p : PolicyData) : Type 0 where

@@ -7,7 +7,7 @@ ghost use Rattle.rm_names.specs.Names.{place_of};
 ghost use Rattle.rm_base.specs.Reading.{Reads};
 ghost use Rattle.rm_policy.specs.Entries.{name_of_entry, value_at};
 ghost use Rattle.rm_policy.specs.Steps.{step_checks};
-ghost use Rattle.rm_policy.specs.GroupAnswers.{IsFit, ReadsArrays, ReadsElements, ReadsGroup, ReadsGroupName, ReadsGroupShape, ReadsLimit, runs_of_limit, steps_of_limit};
+ghost use Rattle.rm_policy.specs.GroupAnswers.{IsFit, ReadsArrays, ReadsElements, ReadsGroup, ReadsGroupName, ReadsGroupShape, ReadsLimit, is_cap, runs_of_limit, steps_of_limit};
 
 use crate::elements::read_names;
 use crate::entries::{Found, array_at, bad_value, has_only, list_at, refused, text_at};
@@ -54,12 +54,13 @@ pub struct Elements {
     pub groups: Vec<u32>,
 }
 
-/// An entry: its name, the numbers of what it names, and its steps.
+/// An entry: its name, the numbers of what it names, its steps, and whether they are given by a cap.
 #[derive(Drop)]
 pub struct GroupEntry<'a> {
     pub name: &'a str,
     pub elements: Elements,
     pub steps: Steps,
+    pub by_cap: bool,
 }
 
 // The runs of an entry without a cap.
@@ -201,6 +202,16 @@ fn read_elements(
     })
 }
 
+// Whether a limit is a cap.
+fn is_cap(limit: &Limit<'_>) -> bool
+    ensures { result ≡ is_cap limit.now }
+{
+    match limit {
+        Limit::Cap(_) => true,
+        Limit::Runs(_) => false,
+    }
+}
+
 // The steps of a limit.
 #[tactic(auto, using(crate::proofs::EntryLemmas::no_runs))]
 fn read_limit(alloc: Global, limit: &Limit<'_>, item: u64) -> Result<Steps, ReadFault>
@@ -249,5 +260,6 @@ pub fn read_group<'a>(
         name: shape.name,
         elements,
         steps,
+        by_cap: is_cap(&shape.limit),
     })
 }

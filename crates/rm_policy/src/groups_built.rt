@@ -19,12 +19,13 @@ use std::alloc::{AllocError, Global};
 use std::marker::Model;
 use toml::Value;
 
-/// Groups: the name, the hospitals and the steps of each.
+/// Groups: the name, the hospitals and the steps of each, and whether they are given by a cap.
 #[derive(Drop)]
 pub struct Groups {
     pub names: Names,
     pub members: Vec<Vec<u32>>,
     pub steps: Vec<Steps>,
+    pub by_cap: Vec<bool>,
 }
 
 impl Model for Groups {
@@ -33,7 +34,7 @@ impl Model for Groups {
 
     ghost Value = { GroupsData };
 
-    ghost view = { λ g. record { names = g.names; members = map (λ m. m.items) g.members.items; steps = g.steps.items } };
+    ghost view = { λ g. record { names = g.names; members = map (λ m. m.items) g.members.items; steps = g.steps.items; by_cap = g.by_cap.items } };
 }
 
 impl Groups {
@@ -45,20 +46,28 @@ impl Groups {
             names: Names::new(alloc),
             members: Vec::new(alloc),
             steps: Vec::new(alloc),
+            by_cap: Vec::new(alloc),
         }
     }
 
     // Adds a group whose name is new.
-    fn push(&mut self, name: &str, members: Vec<u32>, steps: Steps) -> Result<(), NoMemory>
+    fn push(
+        &mut self,
+        name: &str,
+        members: Vec<u32>,
+        steps: Steps,
+        by_cap: bool,
+    ) -> Result<(), NoMemory>
         requires few { length self.old.names < 4_000_000_000 }
         requires new { place_of self.old.names name.now ≡ None }
-        ensures { OnOk result (self.new ≡ with_entry self.old name.now members.items steps) }
+        ensures { OnOk result (self.new ≡ with_entry self.old name.now members.items steps by_cap) }
     {
         let Added::Added(_) = self.names.add(name) else {
             return Err(AllocError);
         };
         self.members.push(members)?;
         self.steps.push(steps)?;
+        self.by_cap.push(by_cap)?;
         Ok(())
     }
 }
@@ -127,7 +136,7 @@ impl Prefectures {
         let Ok(steps) = Steps::flat(alloc, entry.cap) else {
             return Err(ReadFault::NoMemory);
         };
-        let Ok(()) = self.groups.push(entry.name, entry.members, steps) else {
+        let Ok(()) = self.groups.push(entry.name, entry.members, steps, true) else {
             return Err(ReadFault::NoMemory);
         };
         if self.orders.push(entry.order).is_err() {
@@ -183,7 +192,7 @@ impl Groups {
         ) else {
             return Err(ReadFault::NoMemory);
         };
-        let Ok(()) = self.push(entry.name, members, entry.steps) else {
+        let Ok(()) = self.push(entry.name, members, entry.steps, entry.by_cap) else {
             return Err(ReadFault::NoMemory);
         };
         Ok(())

@@ -1,12 +1,12 @@
 // A policy.
 
-ghost use Rattle.std.specs.Prelude.{◌≡◌, ◌<◌, ◌≤◌, ◌+◌, ◌++◌, [], List, Some, None, IfOk, OnOk, map, get_or, length, slice_get, option_map};
+ghost use Rattle.std.specs.Prelude.{◌≡◌, ◌<◌, ◌≤◌, ◌+◌, ◌++◌, [], List, Some, None, IfOk, OnOk, map, get_or, length, drop, slice_get, option_map};
 ghost use Rattle.toml.specs.View.{view};
 ghost use Rattle.rm_base.specs.Checks.{first_of};
 ghost use Rattle.rm_names.specs.Names.{place_of};
 ghost use Rattle.rm_base.specs.Reading.{Reads, Stops};
 ghost use Rattle.rm_policy.specs.Groups.{groups_joined, no_groups};
-ghost use Rattle.rm_policy.specs.Policy.{entry_names, plain, policy_checks, policy_of, IsPolicy, ReadsDocument, ReadsPolicy, ReadsTopEntries};
+ghost use Rattle.rm_policy.specs.Policy.{entry_names, group_among, group_named, plain, policy_checks, policy_of, IsPolicy, ReadsDocument, ReadsPolicy, ReadsTopEntries};
 ghost use Rattle.rm_policy.specs.Values.{document_of};
 
 use crate::entries::refused;
@@ -32,6 +32,7 @@ struct AllGroups {
     group_names: Names,
     members: Vec<Vec<u32>>,
     steps: Vec<Steps>,
+    by_cap: Vec<bool>,
 }
 
 impl Model for AllGroups {
@@ -39,7 +40,7 @@ impl Model for AllGroups {
 
     ghost Value = { PolicyGroups };
 
-    ghost view = { λ g. groups_kept g.prefecture_names g.group_names g.members.items g.steps.items };
+    ghost view = { λ g. groups_kept g.prefecture_names g.group_names g.members.items g.steps.items g.by_cap.items };
 }
 
 impl AllGroups {
@@ -52,6 +53,7 @@ impl AllGroups {
             group_names: Names::new(alloc),
             members: Vec::new(alloc),
             steps: Vec::new(alloc),
+            by_cap: Vec::new(alloc),
         }
     }
 
@@ -61,11 +63,13 @@ impl AllGroups {
     {
         prefectures.members.append(&mut groups.members)?;
         prefectures.steps.append(&mut groups.steps)?;
+        prefectures.by_cap.append(&mut groups.by_cap)?;
         Ok(AllGroups {
             prefecture_names: prefectures.names,
             group_names: groups.names,
             members: prefectures.members,
             steps: prefectures.steps,
+            by_cap: prefectures.by_cap,
         })
     }
 
@@ -87,6 +91,17 @@ impl AllGroups {
         ensures { result ≡ place_of self.now.entries name.now }
     {
         self.prefecture_names.find(name)
+    }
+
+    // The number of the group of this name: a group entry, or else a prefecture entry.
+    fn find(&self, name: &str) -> Option<u32>
+        requires { length self.now.groups.names < 4_000_000_000 }
+        ensures { result ≡ group_among self.now.entries (drop (length self.now.entries) self.now.groups.names) name.now }
+    {
+        match self.group_names.find(name) {
+            Some(k) => Some(self.prefecture_names.len() + k),
+            None => self.prefecture_names.find(name),
+        }
     }
 }
 
@@ -276,6 +291,30 @@ impl Policy {
         ensures { slice_get self.entry.now.groups.names g ≡ Some result.now }
     {
         self.groups.name(g)
+    }
+
+    /// Whether group g is given by the key `cap`, as each prefecture entry is.
+    pub fn by_cap(&self, g: u32) -> bool
+        requires { g < length self.now.groups.members }
+        ensures { slice_get self.now.groups.by_cap g ≡ Some result }
+    {
+        self.groups.by_cap[g as usize]
+    }
+
+    /// The group of this name: the name is looked for among the group entries and, where none of them has it, among the prefecture
+    /// entries. None exactly where both lack it.
+    pub fn find_group(&self, name: &str) -> Option<u32>
+        ensures { result ≡ group_named self.now name.now }
+    {
+        self.groups.find(name)
+    }
+
+    /// The item of group g, by which refusals name it: its place among the entries of the file, from 1.
+    pub fn item(&self, g: u32) -> u64
+        requires { g < length self.now.groups.members }
+        ensures { result ≡ g + 1 }
+    {
+        g as u64 + 1
     }
 
     /// How many of the groups are prefecture entries; they come first.

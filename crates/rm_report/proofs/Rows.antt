@@ -1,5 +1,5 @@
 -- Texts of one small case, computed: a hospital in two groups, of which the inner one is its prefecture's entry, and four doctors.
-use Rattle.std.proofs.Common.{◌≡◌, length, [], ◌∷◌, Some, None, refl, codes, false, pos, negsuc}
+use Rattle.std.proofs.Common.{◌≡◌, length, [], ◌∷◌, Some, None, refl, codes, true, false, pos, negsuc}
 use Rattle.rm_sets.specs.Sets as sets
 use Rattle.rm_market.specs.Board.{contract_count}
 use Rattle.rm_market.specs.Tree.{depth, chain}
@@ -29,7 +29,7 @@ small =
         kind = Steps;
         ties = ByRank;
         listed = [];
-        groups = record { names = codes "P" ∷ codes "all" ∷ []; members = (0 ∷ []) ∷ (0 ∷ []) ∷ []; steps = (pos 0 ∷ []) ∷ (pos 0 ∷ []) ∷ [] };
+        groups = record { names = codes "P" ∷ codes "all" ∷ []; members = (0 ∷ []) ∷ (0 ∷ []) ∷ []; steps = (pos 0 ∷ []) ∷ (pos 0 ∷ []) ∷ []; by_cap = true ∷ true ∷ [] };
         orders = None ∷ [];
         hospital_steps = [];
       };
@@ -87,7 +87,7 @@ two =
         kind = Steps;
         ties = ByRank;
         listed = [];
-        groups = record { names = codes "P" ∷ []; members = (0 ∷ 2 ∷ []) ∷ []; steps = (pos 0 ∷ pos 0 ∷ []) ∷ [] };
+        groups = record { names = codes "P" ∷ []; members = (0 ∷ 2 ∷ []) ∷ []; steps = (pos 0 ∷ pos 0 ∷ []) ∷ []; by_cap = true ∷ [] };
         orders = None ∷ [];
         hospital_steps = [];
       };

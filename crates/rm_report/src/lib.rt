@@ -7,6 +7,7 @@ mod counts;
 mod finding;
 mod pair;
 mod placement;
+mod relax;
 mod report;
 mod writing;
 
@@ -15,6 +16,7 @@ pub use check::check_text;
 pub use finding::finding_text;
 pub use pair::pair_text;
 pub use placement::placement_text;
+pub use relax::relax_text;
 pub use report::prefecture_text;
 pub use rm_base::NoMemory;
 pub use writing::{close, open_writer, write_row};

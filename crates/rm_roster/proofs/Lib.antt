@@ -3,7 +3,6 @@ mod AcceptedHospitals
 mod AcceptedLists
 mod DoctorRows
 mod Files
-mod HeaderLemmas
 mod HospitalRows
 mod ItemCells
 mod NumberLemmas

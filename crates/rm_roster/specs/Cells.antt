@@ -1,7 +1,6 @@
 -- Rows and cells of a table, and what a cell may be.
-use Rattle.std.specs.Prelude.{ℕ, ◌+◌, ◌-◌, Bool, ◌&&◌, nat_le, List, [], ◌∷◌, length, get_or, drop, Option, Some, None, option_map, if◌then◌else◌}
+use Rattle.std.specs.Prelude.{ℕ, ◌-◌, Bool, ◌&&◌, nat_le, List, [], length, get_or, Option, Some, None, option_map}
 use Rattle.std.specs.List.{list_all}
-use Rattle.std.specs.Str.{bytes_eq}
 use Rattle.std.specs.Char.{is_ascii_digit}
 use Rattle.std.specs.Str.Parse.{digits_value}
 use Rattle.rm_base.specs.Text.{Text}
@@ -9,6 +8,8 @@ use Rattle.rm_base.specs.Codes.{refuse}
 use Rattle.rm_base.specs.declared.Refusal.{Refusal}
 use Rattle.rm_base.specs.declared.codes.TheConstants.{WRONG_HEADER}
 use Rattle.rm_table.specs.Rows.{Row}
+pub use Rattle.rm_table.specs.Header.{data_rows}
+unfoldable pub use Rattle.rm_table.specs.Header.{wrong_cell}
 
 -- the cell of a field, counted from 1, or the empty text past the end
 abbrev pub field : ℕ → Row → Text
@@ -17,10 +18,6 @@ field j row = get_or row (j - 1) []
 -- the text in the first field
 abbrev pub name_in : Row → Text
 name_in row = field 1 row
-
--- the rows after the header
-abbrev pub data_rows : List Row → List Row
-data_rows rows = drop 1 rows
 
 -- ---- numbers
 
@@ -33,11 +30,6 @@ abbrev pub number : Text → ℕ
 number text = digits_value 10 text
 
 -- ---- the header
-
--- the field of the first of the wanted cells that the header lacks, where j of them stand before
-unfoldable pub wrong_cell : ℕ → List Text → Row → Option ℕ
-wrong_cell j [] header = None
-wrong_cell j (wanted ∷ rest) header = if bytes_eq (get_or header j []) wanted then wrong_cell (j + 1) rest header else Some (j + 1)
 
 abbrev pub header_check : ℕ → List Text → List Row → Option Refusal
 header_check file wanted rows = option_map (λ j. refuse WRONG_HEADER file 0 j) (wrong_cell 0 wanted (get_or rows 0 []))

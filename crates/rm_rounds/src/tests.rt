@@ -1,10 +1,9 @@
 // Two doctors at a hospital with one post. Of the contracts 0 to 3, which it prefers in this order, 1 and 2 are Ann's, 0 and 3 Bob's.
 
 ghost use Rattle.std.specs.Prelude.{◌≡◌, [], ◌∷◌, IfOk, length, take};
-ghost use Rattle.rm_market.specs.Best.{IsChoice};
 
 use super::*;
-use rm_choice::{Choice, ChoiceHolder, Holder, Outcome, Room};
+use rm_choice::{ChoiceHolder, Holder, OnePost, Outcome};
 use rm_ranks::Lists;
 use std::alloc::Global;
 use std::test::Fail;
@@ -12,46 +11,6 @@ use std::test::Fail;
 const ANN: u32 = 0;
 
 const BOB: u32 = 1;
-
-// Takes the first of what is offered.
-#[derive(Drop)]
-struct TakesFirst {
-    contracts: u32,
-    ghost lawful: { IsChoice contracts (take 1) },
-}
-
-fn takes_first(contracts: u32) -> TakesFirst
-    ensures { result.contracts ≡ contracts }
-{
-    TakesFirst { contracts }
-}
-
-impl Choice for TakesFirst {
-    ghost count = { λ c. c.contracts };
-
-    ghost node_count = { λ _. 0 };
-
-    ghost chosen = { λ _. take 1 };
-
-    ghost lawful = { λ c. c.lawful };
-
-    fn contracts(&self) -> u32 {
-        self.contracts
-    }
-
-    fn nodes(&self) -> u32 {
-        0
-    }
-
-    #[tactic(auto, using(rm_sets::proofs::Sizes::length_below))]
-    fn choose(&self, offered: &[u32], room: &mut Room) -> usize {
-        if offered.is_empty() {
-            return 0;
-        }
-        room.list[0] = offered[0];
-        1
-    }
-}
 
 // A turn, what it does, and whether the desk is closed after it.
 #[derive(Clone, Copy)]
@@ -126,12 +85,12 @@ fn new_desk<'a>(
     alloc: Global,
     listed: &'a Lists,
     owners: &'a [u32],
-) -> Result<Desk<'a, ChoiceHolder<TakesFirst>>, NoMemory>
+) -> Result<Desk<'a, ChoiceHolder<OnePost>>, NoMemory>
     requires listed { listed.now ≡ (2 ∷ 1 ∷ []) ∷ (3 ∷ 0 ∷ []) ∷ [] }
     requires owners { owners.now ≡ 1 ∷ 0 ∷ 0 ∷ 1 ∷ [] }
     ensures { IfOk result (λ desk. length desk.wishes.listed ≡ 2) }
 {
-    let holder = ChoiceHolder::open(alloc, takes_first(4))?;
+    let holder = ChoiceHolder::open(alloc, OnePost::new(4))?;
     Desk::open(alloc, listed, owners, holder)
 }
 

@@ -1,7 +1,7 @@
 pub mod AtLemmas
 pub mod CellLemmas
 pub mod CutLemmas
-mod HeaderLemmas
+pub mod HeaderLemmas
 pub mod OnLiterals
 pub mod PackLemmas
 pub mod RecordLemmas

@@ -5,7 +5,7 @@ use Rattle.rm_sets.proofs.Sets.{same_within}
 use Rattle.rm_sets.proofs.Members.{IsIn-filter, IsIn-from_filter, IsIn-get_or, IsSetBelow-filter, not_in_from}
 use Rattle.rm_market.specs.Best.{IsChoice}
 use Rattle.rm_matching_laws.proofs.PathIndependence.{chosen-with_one}
-use Rattle.rm_exchange.proofs.Lists.{below_next, below_take, take_with_next}
+use Rattle.rm_valuation.proofs.Taken.{below_next, below_take, take_with_next}
 
 -- the next member isn't among what is chosen of those before it
 pub next_is_new : (n : ℕ) (C : List ℕ → List ℕ) (k : ℕ) (X : List ℕ) → IsChoice n C → IsSetBelow n X → k < length X → has (get_or X k 0) (C (take k X)) ≡ false

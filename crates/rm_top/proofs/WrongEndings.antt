@@ -1,9 +1,9 @@
 -- Wrong texts and wrong endings, and what refuses them.
-use Rattle.std.proofs.Common.{◌≡◌, ◌≢◌, ℕ, ◌+◌, ◌-◌, List, [], ◌++◌, length, take, Option, None, Some, Result, Ok, Err, IsSome, is_some, inl, refl, sym, ap, ◌∙◌, ⊎_elim, arith, true≢false}
+use Rattle.std.proofs.Common.{◌≡◌, ◌≢◌, ℕ, ◌+◌, ◌-◌, List, [], ◌++◌, length, take, Option, None, Some, Result, Ok, Err, IsSome, is_some, inl, refl, sym, subst, ap, ◌∙◌, ⊎_elim, arith, true≢false}
 use Rattle.rm_base.specs.Text.{Text, Files}
 use Rattle.rm_base.specs.declared.Refusal.{Refusal}
 use Rattle.rm_market.specs.Certificate.{certificate}
-use Rattle.rm_market.specs.Market.{Best, IsPlacementOf, places_of}
+use Rattle.rm_market.specs.Market.{Best, IsPlacementOf, IsStableIn, places_of}
 use Rattle.rm_outside.specs.Outside.{HasRisen}
 use Rattle.rm_case.specs.Case.{CaseData, market, market_of}
 use Rattle.rm_report.specs.Texts.{placement_text, check_text, certificate_text}
@@ -18,13 +18,17 @@ use Rattle.rm_top.specs.Answers.{
   IsChoiceText,
   IsComplete,
   IsErrorText,
+  IsObjectedWhere,
   IsPlacementText,
   IsRefusedWhere,
+  OfGiven,
   Reports,
   WrotePart,
   WroteText,
+  objected,
+  placed_in,
 }
-use Rattle.rm_top.specs.Command.{Command, file_of, folder_in, refusal_of, usage_text}
+use Rattle.rm_top.specs.Command.{Command, file_of, folder_in, own_rows, refusal_of, usage_text}
 use Rattle.rm_top.specs.Texts.{refusal_text, read_fault_text}
 use Rattle.rm_top.specs.declared.command.Kind.TheVariants as kinds
 
@@ -125,3 +129,27 @@ let_through files command r status is answered other says = other (says.1 (ap (�
 -- what is given up without a fault
 given_up : (files : Files) (command : Command) → refusal_of files command ≡ None → ¬ IsComplete (Some files) (Some command) write_failed ⊥ ⊥
 given_up files command none says = ⊎_elim (λ e. ⊎_elim (λ f. omega (arith, f)) (λ f. omega (arith, f)) e) (λ e. omega (arith, e)) (says (λ f. f) (λ f. f) none)
+
+-- status 0 of an audit whose placement isn't stable, and status 1 of one that is, where the files are told
+abbrev audit_of : List Text → Command
+audit_of words = record { kind = kinds.Audit; words = words }
+
+same_case : {c d : CaseData} {result : Result CaseData Refusal} → result ≡ Ok c → result ≡ Ok d → c ≡ d
+same_case e f = cc
+
+of_placement : (files : Files) (words : List Text) (c : CaseData) (P : CaseData → List ℕ → Type 0) → market_of files (folder_in (audit_of words)) ≡ Ok c
+    → OfGiven (Some files) (audit_of words) (λ d rows. P d (placed_in d rows)) → P c (placed_in c (own_rows files (audit_of words)))
+of_placement files words c P is (d, rows, given, holds) =
+    subst (λ x. P x (placed_in x (own_rows files (audit_of words)))) (same_case given.0 is) (rw given.2 at holds)
+
+passed : (files : Files) (words : List Text) (c : CaseData) → market_of files (folder_in (audit_of words)) ≡ Ok c
+    → ¬ IsStableIn (market c) (placed_in c (own_rows files (audit_of words))) → ¬ IsObjectedWhere (Some files) (Some (audit_of words)) written
+passed files words c is not says = not (of_placement files words c (λ d S. IsStableIn (market d) S) is (says.0 refl))
+
+accused : (files : Files) (words : List Text) (c : CaseData) → market_of files (folder_in (audit_of words)) ≡ Ok c
+    → IsStableIn (market c) (placed_in c (own_rows files (audit_of words))) → ¬ IsObjectedWhere (Some files) (Some (audit_of words)) objected
+accused files words c is stable says = of_placement files words c (λ d S. ¬ IsStableIn (market d) S) is (says.1 refl) stable
+
+-- and status 1 of a command that judges nothing, whatever is told
+judged_a_count : (files : Option Files) (words : List Text) → ¬ IsObjectedWhere files (Some (check_of words)) objected
+judged_a_count files words says = let wrong = says.1 refl in wrong.3 tt

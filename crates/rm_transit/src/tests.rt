@@ -1,12 +1,11 @@
 // Two doctors and one seat. Of the contracts 0 to 2, which are preferred in this order, 2 and then 0 are Ann's, and 1 is Bob's.
 
 ghost use Rattle.std.specs.Prelude.{◌≡◌, [], ◌∷◌, IfOk, IsTrue, length, take};
-ghost use Rattle.rm_market.specs.Best.{IsChoice};
 ghost use Rattle.rm_market.specs.Stable.{Wishes};
 ghost use Rattle.rm_transit.specs.Travel.{IsEventOf};
 
 use super::*;
-use rm_choice::{Choice, ChoiceHolder, Holder, Outcome, Room};
+use rm_choice::{ChoiceHolder, Holder, OnePost, Outcome};
 use rm_ranks::Lists;
 use std::alloc::Global;
 use std::test::Fail;
@@ -14,46 +13,6 @@ use std::test::Fail;
 const ANN: u32 = 0;
 
 const BOB: u32 = 1;
-
-// Takes the first of what is offered.
-#[derive(Drop)]
-struct TakesFirst {
-    contracts: u32,
-    ghost lawful: { IsChoice contracts (take 1) },
-}
-
-fn takes_first(contracts: u32) -> TakesFirst
-    ensures { result.contracts ≡ contracts }
-{
-    TakesFirst { contracts }
-}
-
-impl Choice for TakesFirst {
-    ghost count = { λ c. c.contracts };
-
-    ghost node_count = { λ _. 0 };
-
-    ghost chosen = { λ _. take 1 };
-
-    ghost lawful = { λ c. c.lawful };
-
-    fn contracts(&self) -> u32 {
-        self.contracts
-    }
-
-    fn nodes(&self) -> u32 {
-        0
-    }
-
-    #[tactic(auto, using(rm_sets::proofs::Sizes::length_below))]
-    fn choose(&self, offered: &[u32], room: &mut Room) -> usize {
-        if offered.is_empty() {
-            return 0;
-        }
-        room.list[0] = offered[0];
-        1
-    }
-}
 
 // An event, what it does, and where Ann and Bob stand after it.
 #[derive(Clone, Copy)]
@@ -163,13 +122,13 @@ fn new_transit<'a>(
     alloc: Global,
     listed: &'a Lists,
     owners: &'a [u32],
-) -> Result<Transit<'a, ChoiceHolder<TakesFirst>>, NoMemory>
+) -> Result<Transit<'a, ChoiceHolder<OnePost>>, NoMemory>
     requires listed { listed.now ≡ (2 ∷ 0 ∷ []) ∷ (1 ∷ []) ∷ [] }
     requires owners { owners.now ≡ 0 ∷ 1 ∷ 0 ∷ [] }
     ensures doctors { IfOk result (λ transit. length transit.wishes.listed ≡ 2) }
     ensures contracts { IfOk result (λ transit. length transit.wishes.owners ≡ 3) }
 {
-    let holder = ChoiceHolder::open(alloc, takes_first(3))?;
+    let holder = ChoiceHolder::open(alloc, OnePost::new(3))?;
     Transit::open(alloc, listed, owners, holder)
 }
 

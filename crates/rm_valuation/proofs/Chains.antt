@@ -1,10 +1,10 @@
 -- The nodes of a contract, as a tree gives them.
 use Rattle.std.specs.List.{IsDistinct}
-use Rattle.std.proofs.Common.{◌≡◌, ◌∙◌, ℕ, ◌+◌, ◌<◌, ◌≤◌, List, [], ◌∷◌, Bool, true, false, cond, ◌&&◌, ◌||◌, length, map, filter, eqb, ltb, refl, sym, ap, arith}
+use Rattle.std.proofs.Common.{◌≡◌, ◌∙◌, ℕ, ◌+◌, ◌≤◌, List, [], ◌∷◌, Bool, true, false, cond, ◌&&◌, length, filter, eqb, ltb, refl, sym, ap, arith}
 use Rattle.std.proofs.lemmas.Bool.{or_parts, and_parts, ltb-true, lt-ltb}
 use Rattle.std.proofs.lemmas.List.{length-map}
 use Rattle.std.proofs.lemmas.List.Sums.{length-filter, count_by-le-length}
-use Rattle.rm_sets.specs.Sets.{has, IsIn, below}
+use Rattle.rm_sets.specs.Sets.{has, below}
 use Rattle.rm_sets.proofs.Sets.{IsSet-filter, IsSet-all_below}
 use Rattle.rm_sets.proofs.Once.{distinct_of_set, length-below, distinct_none, distinct_one, distinct_first, distinct_rest, distinct_more}
 use Rattle.rm_market.specs.Board.{Board, leaf_of, sets_of}

@@ -1,6 +1,6 @@
 -- Counts by node, and sums of steps along a chain.
 use Rattle.std.specs.List.{IsDistinct}
-use Rattle.std.proofs.Common.{◌≡◌, ◌∙◌, ℕ, suc, ◌+◌, ◌-◌, ◌*◌, ◌<◌, ◌≤◌, List, [], ◌∷◌, Bool, true, false, ◌||◌, length, map, get_or, min, eqb, count_by, Option, Some, None, ℤ, pos, ◌+ℤ◌, ◌-ℤ◌, ◌≤ℤ◌, All, refl, sym, ap, subst, ⊎_elim, arith, rules, add-one, eqb-true}
+use Rattle.std.proofs.Common.{◌≡◌, ◌∙◌, ℕ, ◌+◌, ◌-◌, ◌<◌, ◌≤◌, List, [], ◌∷◌, Bool, true, false, ◌||◌, length, map, get_or, min, eqb, count_by, Some, None, ℤ, pos, ◌+ℤ◌, ◌-ℤ◌, All, refl, sym, ap, subst, ⊎_elim, arith, rules, eqb-true}
 use Rattle.std.specs.Prelude.{◌^◌, slice_get}
 use Rattle.std.proofs.lemmas.Int.{ints}
 use Rattle.std.proofs.lemmas.Bool.{cases_lt}
@@ -16,12 +16,11 @@ use Rattle.rm_sets.proofs.Sizes.{length_below}
 use Rattle.rm_market.specs.Board.{Board, count, count_at, int_sum, is_feasible, node_at, no_node, total, worth}
 use Rattle.rm_laminar.proofs.Members.{flip}
 use Rattle.rm_valuation_laws.specs.Changes.{IsChain, next_step, last_step, sum_upto, test_at}
-use Rattle.rm_valuation_laws.specs.Offers.{IsFull}
 use Rattle.rm_valuation_laws.proofs.Change.{worth_added, worth_removed, added_feasible, added_infeasible, gain_by_chain, loss_by_chain}
 use Rattle.rm_valuation_laws.proofs.Counts.{one, count-cons, count-with_one, count-without}
 use Rattle.rm_valuation_laws.proofs.Sums.{sum_by_place, sum_upto_same}
 use Rattle.rm_valuation.specs.Counts.{AreCounts, IsGain}
-use Rattle.rm_valuation.proofs.Sums.{InRange, IsSummed, IsTotal, none_summed, one_summed}
+use Rattle.rm_valuation.proofs.Sums.{InRange, IsSummed, IsTotal, one_summed}
 
 -- ---- counts by the node's number
 

@@ -1,3 +1,5 @@
 pub mod Chains
 pub mod Sums
 pub mod Counted
+pub mod Taken
+pub mod Overfull

@@ -1,13 +1,13 @@
 -- Steps, their sums, and sums up to a place of a list, with how great they are.
-use Rattle.std.proofs.Common.{◌≡◌, ◌∙◌, ℕ, zero, suc, ◌+◌, ◌-◌, ◌*◌, ◌<◌, ◌≤◌, List, [], ◌∷◌, length, get_or, max, Option, Some, None, ℤ, pos, ◌+ℤ◌, ◌-ℤ◌, ◌≤ℤ◌, All, refl, sym, ap, ⊎_elim, arith, add-one}
-use Rattle.std.specs.Prelude.{◌^◌, slice_get}
+use Rattle.std.proofs.Common.{◌≡◌, ℕ, zero, suc, ◌+◌, ◌-◌, ◌*◌, ◌≤◌, List, [], ◌∷◌, length, get_or, max, ℤ, pos, ◌+ℤ◌, ◌-ℤ◌, ◌≤ℤ◌, All, refl, ⊎_elim, arith, add-one}
+use Rattle.std.specs.Prelude.{◌^◌}
 use Rattle.std.specs.Option.{unwrap_or}
 use Rattle.std.proofs.lemmas.Int.{ints}
 use Rattle.std.proofs.lemmas.Bool.{cases_lt}
 use Rattle.std.proofs.lemmas.List.{get_or_past}
 use Rattle.std.proofs.lemmas.List.Elements.{All-head, All-tail, All-get_or}
-use Rattle.std.proofs.lemmas.Option.{unwrap_or-slice_get, slice_get_within, get_or_from_slice_get}
-use Rattle.rm_market.specs.Board.{int_sum, total}
+use Rattle.std.proofs.lemmas.Option.{unwrap_or-slice_get}
+use Rattle.rm_market.specs.Board.{total}
 use Rattle.rm_market.specs.Steps.{AreSteps}
 use Rattle.rm_steps.specs.Runs.{step_at}
 use Rattle.rm_valuation_laws.specs.Changes.{sum_upto}

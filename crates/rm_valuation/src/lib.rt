@@ -10,8 +10,10 @@ ghost use Rattle.rm_valuation.specs.Counts.{IsMarketBoard, AreCounts, IsGain};
 
 use rm_board::Board;
 
+mod counting;
 mod laminar;
 
+pub use counting::{count_all, first_over};
 pub use laminar::Laminar;
 
 // The nodes of contract x, innermost first.

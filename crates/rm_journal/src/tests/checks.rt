@@ -2,10 +2,10 @@
 
 ghost use Rattle.std.specs.Prelude.{◌≡◌, ◌<◌, All, IsTrue};
 
-use super::folders::{ONE_SEAT, case_of};
 use crate::{Check, Entry, Outcome, verify};
 use rm_base::NoMemory;
 use rm_case::Case;
+use rm_sample_folders::{ONE_SEAT, case_of};
 use std::alloc::Global;
 use std::test::Fail;
 

@@ -7,12 +7,12 @@ ghost use Rattle.rm_flexible.specs.Counts.{AreBelow};
 ghost use Rattle.rm_market.specs.Board.{contract_count};
 ghost use Rattle.rm_case.specs.Regions.{AreApplicants};
 
-use super::folders::{TARGET_OF_TWO, case_of};
 use rm_base::NoMemory;
 use rm_board::Board;
 use rm_case::Case;
 use rm_choice::Room;
 use rm_flexible::{Region, pick};
+use rm_sample_folders::{TARGET_OF_TWO, case_of};
 use std::alloc::Global;
 use std::test::Fail;
 

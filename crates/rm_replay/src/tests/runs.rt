@@ -2,13 +2,13 @@
 
 ghost use Rattle.std.specs.Prelude.{◌≡◌, ◌<◌, All, IsTrue};
 
-use super::folders::{Files, ONE_SEAT, TARGET_OF_TWO, case_of};
 use crate::{Played, flexible_run};
 use rm_base::NoMemory;
 use rm_case::{Case, Places};
 use rm_choice::Outcome;
 use rm_policy::Kind;
 use rm_rounds::Turn;
+use rm_sample_folders::{Files, ONE_SEAT, TARGET_OF_TWO, case_of};
 use std::alloc::Global;
 use std::test::Fail;
 

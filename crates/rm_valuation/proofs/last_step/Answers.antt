@@ -1,4 +1,4 @@
-use Rattle.std.proofs.Common.{◌≡◌, ◌∙◌, ◌-◌, ap, get_or, pos, ◌-ℤ◌, ◌≤ℤ◌, FitsSigned, w64, arith}
+use Rattle.std.proofs.Common.{◌≡◌, ◌∙◌, ◌-◌, ap, get_or, pos, FitsSigned, w64, arith}
 use Rattle.std.specs.Option.{unwrap_or}
 use Rattle.std.proofs.lemmas.Int.{ints, to_z-of_z}
 use Rattle.rm_valuation.proofs.Sums.{InRange, last_step_is, step_in_range}

@@ -1,4 +1,4 @@
-use Rattle.std.proofs.Common.{◌≡◌, ℕ, ◌+◌, ◌-◌, ◌<◌, length, get_or, take, min, eqb, count_by}
+use Rattle.std.proofs.Common.{◌≡◌, ℕ, ◌+◌, ◌<◌, length, get_or, take, min, eqb, count_by}
 use Rattle.rm_valuation.proofs.raise.Given as goal
 
 abbrev pub invariant-loop-i : goal.invariant-loop-i

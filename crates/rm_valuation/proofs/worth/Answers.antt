@@ -1,4 +1,4 @@
-use Rattle.std.proofs.Common.{◌≡◌, ◌+ℤ◌, length, ap, FitsSigned, arith}
+use Rattle.std.proofs.Common.{◌+ℤ◌, length, ap, FitsSigned, arith}
 use Rattle.std.specs.Int.{w128}
 use mir.Val.{to_z}
 use Rattle.std.proofs.lemmas.Int.{ints, to_z-of_z}

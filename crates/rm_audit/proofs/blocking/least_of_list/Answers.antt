@@ -2,7 +2,7 @@ use Rattle.std.proofs.Common.{◌≡◌, ◌∙◌, ◌+◌, ◌<◌, ◌≤◌,
 use Rattle.std.proofs.lemmas.List.Elements.{All-get_or}
 use Rattle.rm_sets.specs.Sets.{has}
 use Rattle.rm_market.specs.Board.{contract_count}
-use Rattle.rm_exchange.proofs.Lists.{up_to_next}
+use Rattle.rm_valuation.proofs.Taken.{up_to_next}
 use Rattle.rm_audit.proofs.Reaching.{next_reached, stop_reached}
 use Rattle.rm_audit.proofs.blocking.least_of_list.Goals as goal
 

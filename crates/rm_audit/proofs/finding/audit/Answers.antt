@@ -8,6 +8,7 @@ use Rattle.rm_case.specs.Case.{market}
 use Rattle.rm_verdict_laws.specs.Findings.{IsFinding}
 use Rattle.rm_verdict_laws.proofs.Finding.{placed_below}
 use Rattle.rm_audit.specs.Blocking.{AreMarks}
+use Rattle.rm_audit.proofs.CountForm.{stable_by_counts}
 use Rattle.rm_audit.proofs.Listed.{is_placement}
 use Rattle.rm_audit.proofs.Marks.{marked_set}
 use Rattle.rm_audit.proofs.Findings.{stable_where}
@@ -67,3 +68,9 @@ returns-clause-stable c =
     ∙ (ap (λ l. all_below (contract_count (market s).board) (λ x. get_or l x false)) c.deref.ensures.value ∙ marked_set (contract_count (market s).board) S c.in_ok-marks.marks.items (placed_below (market s) S p) marks)) in
     let lent : c.deref-3.result.now ≡ S = c.deref-3.ensures.value ∙ is in
     stable_where (market s) c.marks_of.ensures.case.market S p c.finding_on.result (subst (λ L. IfOk c.finding_on.result (IsFinding (market s) L)) lent c.finding_on.ensures.finding)
+
+pub returns-clause-counts : goal.returns-clause-counts
+returns-clause-counts c =
+    let s = c.args.case.now in
+    let places = c.args.places.now in
+    stable_by_counts s (set_of_places (market s) places) c.marks_of.ensures.case (is_placement s places c.marks_of.ensures.case c.requires) c.finding_on.result (returns-clause-stable c)

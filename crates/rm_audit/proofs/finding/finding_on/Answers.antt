@@ -1,10 +1,10 @@
 use Rattle.std.proofs.Common.{◌≡◌, ◌∙◌, ◌<◌, ℕ, All, Some, None, length, sym, subst}
 use Rattle.rm_market.specs.Board.{contract_count, leaf_of}
-use Rattle.rm_market.specs.Market.{wishes_of}
+use Rattle.rm_verdict_laws.specs.Findings.{IsFinding}
 use Rattle.rm_case.specs.Case.{market}
 use Rattle.rm_valuation.specs.Counts.{AreCounts}
 use Rattle.rm_audit.specs.Blocking.{AreMarks, IsFirstBlocking, IsWeighed}
-use Rattle.rm_audit.proofs.Findings.{over_finding, chosen, unwanted_finding, weighed, blocks_finding, stable_finding}
+use Rattle.rm_audit.proofs.Findings.{over_finding, chosen, unwanted_finding, weighed, first_finding}
 use Rattle.rm_audit.proofs.Walkable.{leaves_low, listed_low}
 use Rattle.rm_audit.proofs.finding.finding_on.Goals as goal
 
@@ -47,29 +47,10 @@ pub cheapest_of-requires-clause-leaves : goal.cheapest_of-requires-clause-leaves
 cheapest_of-requires-clause-leaves c =
     subst (λ b. (x : ℕ) → x < contract_count b → leaf_of b x < length b.ranks) (sym c.board-board.ensures.board) (leaves_low c.args.case.now)
 
-pub first_blocking-requires-clause-contracts : goal.first_blocking-requires-clause-contracts
-first_blocking-requires-clause-contracts c =
+pub first_blocking-blocking-requires-clause-contracts : goal.first_blocking-blocking-requires-clause-contracts
+first_blocking-blocking-requires-clause-contracts c =
     subst (λ b. All (All (λ x. x < contract_count b)) c.listed.result.now) (sym c.board-board.ensures.board)
     (subst (All (All (λ x. x < contract_count (market c.args.case.now).board))) (sym c.listed.ensures.listed) (listed_low c.args.case.now c.board-board.ensures.case))
-
-pub returns-in-Some-first_blocking-clause-finding : goal.returns-in-Some-first_blocking-clause-finding
-returns-in-Some-first_blocking-clause-finding c =
-    let m = market c.args.case.now in
-    let ok = c.board-board.ensures.case.market in
-    let S = c.args.contracts.now in
-    let p = c.requires.placement in
-    let b = c.board-board.result.now in
-    let e = c.board-board.ensures.board in
-    let counted : AreCounts b S c.deref.result.now = subst (AreCounts b S) (sym c.deref.ensures.value) c.in_ok-counts.ensures.counts in
-    let none = sym (c.first_over.ensures S counted) ∙ c.in_default.is in
-    let kept = sym c.first_unwanted.ensures ∙ c.in_default-first_unwanted.is in
-    let weights = weighed m ok S p b e none kept c.in_ok-counts.counts.items c.in_ok-cheapest.cheapest.items c.in_ok-counts.ensures.counts c.in_ok-cheapest.ensures.cheapest in
-    let at_counts : IsWeighed b S c.deref-4.result.now c.in_ok-cheapest.cheapest.items = subst (λ l. IsWeighed b S l c.in_ok-cheapest.cheapest.items) (sym c.deref-4.ensures.value) weights in
-    let at_all : IsWeighed b S c.deref-4.result.now c.deref-5.result.now = subst (IsWeighed b S c.deref-4.result.now) (sym c.deref-5.ensures.value) at_counts in
-    let marks : AreMarks (contract_count b) S c.args.marks.now = subst (λ d. AreMarks (contract_count d) S c.args.marks.now) (sym e) c.requires.marks in
-    let found = c.first_blocking.ensures S at_all marks in
-    let told = subst (λ lists. IsFirstBlocking b lists S c.first_blocking.result) c.listed.ensures.listed found in
-    blocks_finding m ok S p b e none kept c.in-Some-first_blocking.x (subst (IsFirstBlocking b (wishes_of m).listed S) c.in-Some-first_blocking.is told)
 
 pub returns-clause-finding : goal.returns-clause-finding
 returns-clause-finding c =
@@ -86,6 +67,6 @@ returns-clause-finding c =
     let at_counts : IsWeighed b S c.deref-4.result.now c.in_ok-cheapest.cheapest.items = subst (λ l. IsWeighed b S l c.in_ok-cheapest.cheapest.items) (sym c.deref-4.ensures.value) weights in
     let at_all : IsWeighed b S c.deref-4.result.now c.deref-5.result.now = subst (IsWeighed b S c.deref-4.result.now) (sym c.deref-5.ensures.value) at_counts in
     let marks : AreMarks (contract_count b) S c.args.marks.now = subst (λ d. AreMarks (contract_count d) S c.args.marks.now) (sym e) c.requires.marks in
-    let found = c.first_blocking.ensures S at_all marks in
-    let told = subst (λ lists. IsFirstBlocking b lists S c.first_blocking.result) c.listed.ensures.listed found in
-    stable_finding m ok S p b e none kept (subst (IsFirstBlocking b (wishes_of m).listed S) c.in-None.is told)
+    let found = c.first_blocking-blocking.ensures S at_all marks in
+    let told = subst (λ lists. IsFirstBlocking b lists S c.first_blocking-blocking.result) c.listed.ensures.listed found in
+    subst (IsFinding m S) (sym c.blocking_finding.ensures) (first_finding m ok S p b e none kept c.first_blocking-blocking.result told)

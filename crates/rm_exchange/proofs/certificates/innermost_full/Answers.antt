@@ -5,7 +5,7 @@ use Rattle.rm_sets.proofs.Members.{IsIn-get_or}
 use Rattle.rm_market.specs.Tree.{sets_of_tree}
 use Rattle.rm_valuation.proofs.Chains.{chain_is}
 use Rattle.rm_valuation.proofs.Counted.{count_of}
-use Rattle.rm_exchange.proofs.Lists.{none_more, some_here}
+use Rattle.rm_valuation.proofs.Taken.{none_more, some_here}
 use Rattle.rm_exchange.proofs.Rows.{is_full, innermost_is, full_test, unfull_test}
 use Rattle.rm_exchange.proofs.certificates.innermost_full.Goals as goal
 

@@ -1,6 +1,6 @@
 use Rattle.std.proofs.Common.{◌∙◌}
 use Rattle.std.proofs.lemmas.List.Sorted.{searched}
-use Rattle.rm_exchange.proofs.Lists.{found_is, rising}
+use Rattle.rm_valuation.proofs.Taken.{found_is, rising}
 use Rattle.rm_exchange.proofs.refused.holds.Goals as goal
 
 pub returns : goal.returns

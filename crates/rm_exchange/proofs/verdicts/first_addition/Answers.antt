@@ -4,7 +4,7 @@ use Rattle.std.proofs.lemmas.List.{take_all}
 use Rattle.rm_sets.specs.Sets.{with_one}
 use Rattle.rm_sets.proofs.Members.{IsIn-get_or}
 use Rattle.rm_market.specs.Best.{values_of, is_better}
-use Rattle.rm_exchange.proofs.Lists.{none_more, some_here, outside}
+use Rattle.rm_valuation.proofs.Taken.{none_more, some_here, outside}
 use Rattle.rm_exchange.proofs.verdicts.first_addition.Goals as goal
 
 pub is_better_with-requires-clause-contract : goal.is_better_with-requires-clause-contract

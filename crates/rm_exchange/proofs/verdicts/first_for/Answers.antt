@@ -3,7 +3,7 @@ use Rattle.std.proofs.lemmas.Int.{to_z-of_z}
 use Rattle.rm_sets.proofs.Members.{IsIn-get_or}
 use Rattle.rm_market.specs.Best.{values_of, is_better, swapped}
 use Rattle.rm_laminar.proofs.Counts.{position-some, position-none}
-use Rattle.rm_exchange.proofs.Lists.{up_to_next}
+use Rattle.rm_valuation.proofs.Taken.{up_to_next}
 use Rattle.rm_exchange.proofs.Changes.{fits_i64}
 use Rattle.rm_exchange.proofs.verdicts.first_for.Goals as goal
 

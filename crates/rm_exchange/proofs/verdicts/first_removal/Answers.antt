@@ -2,7 +2,7 @@ use Rattle.std.proofs.Common.{rules, get_or, sym}
 use Rattle.rm_sets.specs.Sets.{without}
 use Rattle.rm_sets.proofs.Members.{IsIn-get_or}
 use Rattle.rm_market.specs.Best.{values_of, is_better}
-use Rattle.rm_exchange.proofs.Lists.{none_more, some_here}
+use Rattle.rm_valuation.proofs.Taken.{none_more, some_here}
 use Rattle.rm_exchange.proofs.Changes.{removal_better, removal_no_better}
 use Rattle.rm_exchange.proofs.verdicts.first_removal.Goals as goal
 

@@ -5,7 +5,7 @@ use Rattle.rm_sets.proofs.Members.{IsIn-get_or}
 use Rattle.rm_market.specs.Board.{contract_count}
 use Rattle.rm_market.specs.Best.{values_of}
 use Rattle.rm_exchange.specs.Swaps.{IsFirstSwap}
-use Rattle.rm_exchange.proofs.Lists.{below_take, in_take}
+use Rattle.rm_valuation.proofs.Taken.{below_take, in_take}
 use Rattle.rm_exchange.proofs.Changes.{fits_i64, put_back}
 use Rattle.rm_exchange.proofs.FirstSwap.{none_for, some_for, first_swap_is}
 use Rattle.rm_exchange.proofs.verdicts.first_swap.Goals as goal

@@ -6,7 +6,7 @@ use Rattle.rm_sets.proofs.Members.{IsSetBelow-smaller, IsSetBelow-filter}
 use Rattle.rm_sets.proofs.Sizes.{length_below}
 use Rattle.rm_market.specs.Board.{contract_count}
 use Rattle.rm_verdict_laws.proofs.Over.{feasible_from_none}
-use Rattle.rm_exchange.proofs.Lists.{outside}
+use Rattle.rm_valuation.proofs.Taken.{outside}
 use Rattle.rm_exchange.proofs.FirstChange.{verdict_over}
 use Rattle.rm_exchange.proofs.verdicts.verdict.Goals as goal
 

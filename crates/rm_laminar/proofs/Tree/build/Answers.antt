@@ -27,6 +27,26 @@ children_of-requires-clause-firsts c =
     let first = kept-firsts c.args.hospitals (chain_lists c.args.groups.now) c.in_ok-chains.chains c.in-Ok.firsts.items (groups-are c.args.hospitals c.args.groups.now c.requires.few_hospitals c.requires.few_groups c.requires.sets) built c.in-Ok.ensures in
     rw (c.deref.ensures.value, built.each_hospital) first.1
 
+pub walk_of-requires-clause-chains : goal.walk_of-requires-clause-chains
+walk_of-requires-clause-chains c =
+    let built = c.in_ok-chains.ensures.1 in
+    rw built.each_hospital built
+
+pub walk_of-requires-clause-groups : goal.walk_of-requires-clause-groups
+walk_of-requires-clause-groups c = rw c.in_ok-chains.ensures.1.each_hospital (groups-are c.args.hospitals c.args.groups.now c.requires.few_hospitals c.requires.few_groups c.requires.sets)
+
+pub walk_of-requires-clause-nodes : goal.walk_of-requires-clause-nodes
+walk_of-requires-clause-nodes c =
+    let built = c.in_ok-chains.ensures.1 in
+    let first = kept-firsts c.args.hospitals (chain_lists c.args.groups.now) c.in_ok-chains.chains c.in-Ok.firsts.items (groups-are c.args.hospitals c.args.groups.now c.requires.few_hospitals c.requires.few_groups c.requires.sets) built c.in-Ok.ensures in
+    rw (c.deref-2.ensures.value, built.each_hospital, first.0, lists-length) refl
+
+pub walk_of-requires-clause-firsts : goal.walk_of-requires-clause-firsts
+walk_of-requires-clause-firsts c =
+    let built = c.in_ok-chains.ensures.1 in
+    let first = kept-firsts c.args.hospitals (chain_lists c.args.groups.now) c.in_ok-chains.chains c.in-Ok.firsts.items (groups-are c.args.hospitals c.args.groups.now c.requires.few_hospitals c.requires.few_groups c.requires.sets) built c.in-Ok.ensures in
+    rw (c.deref-2.ensures.value, built.each_hospital) first.1
+
 pub members_of-requires-clause-chains : goal.members_of-requires-clause-chains
 members_of-requires-clause-chains c =
     let built = c.in_ok-chains.ensures.1 in
@@ -35,17 +55,8 @@ members_of-requires-clause-chains c =
 pub members_of-requires-clause-groups : goal.members_of-requires-clause-groups
 members_of-requires-clause-groups c = rw c.in_ok-chains.ensures.1.each_hospital (groups-are c.args.hospitals c.args.groups.now c.requires.few_hospitals c.requires.few_groups c.requires.sets)
 
-pub members_of-requires-clause-nodes : goal.members_of-requires-clause-nodes
-members_of-requires-clause-nodes c =
-    let built = c.in_ok-chains.ensures.1 in
-    let first = kept-firsts c.args.hospitals (chain_lists c.args.groups.now) c.in_ok-chains.chains c.in-Ok.firsts.items (groups-are c.args.hospitals c.args.groups.now c.requires.few_hospitals c.requires.few_groups c.requires.sets) built c.in-Ok.ensures in
-    rw (c.deref-2.ensures.value, built.each_hospital, first.0, lists-length) refl
-
-pub members_of-requires-clause-firsts : goal.members_of-requires-clause-firsts
-members_of-requires-clause-firsts c =
-    let built = c.in_ok-chains.ensures.1 in
-    let first = kept-firsts c.args.hospitals (chain_lists c.args.groups.now) c.in_ok-chains.chains c.in-Ok.firsts.items (groups-are c.args.hospitals c.args.groups.now c.requires.few_hospitals c.requires.few_groups c.requires.sets) built c.in-Ok.ensures in
-    rw (c.deref-2.ensures.value, built.each_hospital) first.1
+pub members_of-requires-clause-walk : goal.members_of-requires-clause-walk
+members_of-requires-clause-walk c = c.deref-3.ensures.value ∙ c.in-Ok-walk_of.ensures.nodes_are
 
 pub packed_tree-requires-clause-kept : goal.packed_tree-requires-clause-kept
 packed_tree-requires-clause-kept c =
@@ -62,6 +73,12 @@ packed_tree-requires-clause-members c =
     let k = kept c.args.hospitals (chain_lists c.args.groups.now) c.in_ok-chains.chains c.in-Ok.firsts.items (groups-are c.args.hospitals c.args.groups.now c.requires.few_hospitals c.requires.few_groups c.requires.sets) c.in_ok-chains.ensures.1 c.in-Ok.ensures in
     let told_members = rw c.in_ok-chains.ensures.1.each_hospital at c.in-Ok-members_of.ensures in
     rw k.0 told_members
+
+pub packed_tree-requires-clause-walk : goal.packed_tree-requires-clause-walk
+packed_tree-requires-clause-walk c =
+    let k = kept c.args.hospitals (chain_lists c.args.groups.now) c.in_ok-chains.chains c.in-Ok.firsts.items (groups-are c.args.hospitals c.args.groups.now c.requires.few_hospitals c.requires.few_groups c.requires.sets) c.in_ok-chains.ensures.1 c.in-Ok.ensures in
+    let told_walk = rw c.in_ok-chains.ensures.1.each_hospital at c.in-Ok-walk_of.ensures in
+    rw k.0 told_walk
 
 pub returns : goal.returns
 returns c = (

@@ -1,4 +1,4 @@
-use Rattle.std.proofs.Common.{◌<◌, ℕ, get_or, subst, arith}
+use Rattle.std.proofs.Common.{◌<◌, ℕ, subst, arith}
 use Rattle.rm_sets.proofs.Members.{place_from_IsIn}
 use Rattle.rm_laminar.proofs.tests.is_set.Goals as goal
 

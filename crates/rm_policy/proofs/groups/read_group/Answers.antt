@@ -54,4 +54,4 @@ returns-clause-entry c =
     let new = name-new c.args.first names i (name_of_entry d) (rw s.1 at c.in_default.ensures) in
     let a = rw (s.5, s.6, s.7) at c.in-Ok-read_elements.ensures in
     let l = rw s.2 at c.in-Ok-read_limit.ensures in
-    (group-last r c.args.first names d i e s.0 new a.0 ∙ l.0, s.1, a.1, a.2, a.3, l.1 ∙ s.3)
+    (group-last r c.args.first names d i e s.0 new a.0 ∙ l.0, s.1, a.1, a.2, a.3, l.1 ∙ s.3, c.is_cap.ensures ∙ s.8)

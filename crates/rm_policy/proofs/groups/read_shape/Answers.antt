@@ -36,4 +36,5 @@ returns-clause-shape c =
       a.1,
       a.2,
       a.3,
+      l.4,
     )

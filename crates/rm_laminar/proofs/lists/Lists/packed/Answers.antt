@@ -1,5 +1,5 @@
-use Rattle.std.proofs.Common.{◌≡◌, ◌∙◌, ◌<◌, [], ◌++◌, ◌∷◌, List, ℕ, length, take, ap, sym, arith}
-use Rattle.std.proofs.lemmas.List.{take_more, length-map}
+use Rattle.std.proofs.Common.{◌<◌, [], length, arith}
+use Rattle.std.proofs.lemmas.List.{take_more}
 use Rattle.rm_laminar.proofs.ListOfLists.{list-at, lists-length}
 use Rattle.rm_laminar.specs.Chains.{chain_lists}
 use Rattle.rm_laminar.proofs.lists.Lists.packed.Goals as goal

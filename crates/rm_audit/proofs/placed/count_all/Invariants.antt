@@ -1,6 +1,0 @@
-use Rattle.std.proofs.Common.{◌≡◌, length, take}
-use Rattle.rm_valuation.specs.Counts.{AreCounts}
-use Rattle.rm_audit.proofs.placed.count_all.Given as goal
-
-abbrev pub invariant-loop-i : goal.invariant-loop-i
-invariant-loop-i l = (length l.counts ≡ length l.board.nodes) × AreCounts l.board (take l.i l.contracts) l.counts

@@ -1,5 +1,0 @@
-use Rattle.std.proofs.Common.{◌<◌, ◌+◌, ℕ, get_or}
-use Rattle.rm_exchange.proofs.tests.is_set.Given as goal
-
-abbrev pub invariant-loop-i : goal.invariant-loop-i
-invariant-loop-i l = ((k : ℕ) → k < l.i → get_or l.xs k 0 < l.n) × ((k : ℕ) → k + 1 < l.i → get_or l.xs k 0 < get_or l.xs (k + 1) 0)

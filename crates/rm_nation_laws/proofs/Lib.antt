@@ -1,0 +1,7 @@
+mod Printed
+mod Below
+mod Policy
+mod Hospitals
+mod Roster
+mod Groups
+mod Drawn

@@ -1,0 +1,7 @@
+use Rattle.std.proofs.lemmas.Result.{IfOk-weaker}
+use Rattle.rm_relax.proofs.Placements.{withdrawn}
+use Rattle.rm_relax.proofs.withdraw.Goals as goal
+
+pub returns-clause-withdrawn : goal.returns-clause-withdrawn
+returns-clause-withdrawn c =
+    IfOk-weaker c.what_if.result _ _ (λ pair both. withdrawn c.args.case.now c.args.d pair.declared pair.replaced c.what_if.ensures.case c.requires both) c.what_if.ensures.both
