@@ -574,9 +574,13 @@ const REFUSED_EVENTS: Row<'static> = Row {
 
 const UNREAD_EVENTS: Row<'static> = Row {
     name: "the first fetch for events fails",
-    words: TRAVELLED.words,
-    own: TRAVELLED.own,
-    ..UNREAD_AUDIT
+    fetches: &[1, 2],
+    puts: &[1],
+    reports: &[2],
+    status: 4,
+    out: b"",
+    err: b"read fault 1\n",
+    ..TRAVELLED
 };
 
 const UNWRITTEN_EVENTS: Row<'static> = Row {
@@ -589,7 +593,8 @@ const UNWRITTEN_EVENTS: Row<'static> = Row {
     ..TRAVELLED
 };
 
-static TRAVEL_ROWS: [Row<'static>; 25] = [
+// Events that are read, that are refused, and that aren't read or whose text isn't written.
+static TRAVEL_ROWS: [Row<'static>; 6] = [
     TRAVELLED,
     Row {
         name: "nothing was sent",
@@ -626,6 +631,9 @@ static TRAVEL_ROWS: [Row<'static>; 25] = [
         out: b"doctor,hospital,state\nA,H1,held\nB,,done\n,,closed\n",
         ..TRAVELLED
     },
+];
+
+static REFUSED_TRAVEL_ROWS: [Row<'static>; 12] = [
     REFUSED_EVENTS,
     Row {
         name: "events that aren't text",
@@ -683,7 +691,7 @@ static TRAVEL_ROWS: [Row<'static>; 25] = [
     },
     Row {
         name: "where the folder is refused, its events are not fetched",
-        words: TRAVELLED.words,
+        words: &["transit", "F", "O"],
         ..REFUSED
     },
     Row {
@@ -691,6 +699,9 @@ static TRAVEL_ROWS: [Row<'static>; 25] = [
         words: &["transit", "F"],
         ..NO_COMMAND
     },
+];
+
+static FAILED_TRAVEL_ROWS: [Row<'static>; 7] = [
     UNREAD_EVENTS,
     Row {
         name: "the second fetch for events fails",
@@ -808,6 +819,8 @@ fn writes_texts(rt: HostRuntime) -> Result<(), Fail> {
 #[test]
 fn tells_where_everybody_stands(rt: HostRuntime) -> Result<(), Fail> {
     assert_eq!(rt; first_wrong(rt.alloc(), &TRAVEL_ROWS)?, None);
+    assert_eq!(rt; first_wrong(rt.alloc(), &REFUSED_TRAVEL_ROWS)?, None);
+    assert_eq!(rt; first_wrong(rt.alloc(), &FAILED_TRAVEL_ROWS)?, None);
     Ok(())
 }
 

@@ -1,9 +1,9 @@
 -- Runs of a case's events, in its market.
-use Rattle.std.proofs.Common.{◌≡◌, ◌<◌, ◌+◌, ◌++◌, ℕ, suc, List, [], ◌∷◌, Bool, true, false, length, get_or, drop, map, Option, None, option_map, refl, sym, ap, ap₂, ◌∙◌, subst, add-one, drop-cons}
+use Rattle.std.proofs.Common.{◌≡◌, ◌<◌, ◌+◌, ◌++◌, ℕ, List, [], ◌∷◌, Bool, true, false, length, get_or, drop, map, Option, None, option_map, refl, sym, ap, ap₂, ◌∙◌, subst, add-one, drop-cons}
 use Rattle.std.proofs.lemmas.List.{length-map, map-append}
 use Rattle.rm_sets.specs.Sets.{below}
 use Rattle.rm_sets.proofs.Once.{length-below}
-use Rattle.rm_market.specs.Best.{IsChoice, best_of, values_of}
+use Rattle.rm_market.specs.Best.{best_of, values_of}
 use Rattle.rm_market.specs.Board.{Board, contract_count, hospital_of, owners_of}
 use Rattle.rm_market.specs.Market.{places_of, wishes_of}
 use Rattle.rm_market.specs.Stable.{Wishes, at}

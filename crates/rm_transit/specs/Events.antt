@@ -6,8 +6,7 @@ use Rattle.rm_base.specs.Checks.{check, checks_of}
 use Rattle.rm_base.specs.Codes.{refuse}
 use Rattle.rm_base.specs.Text.{Text}
 use Rattle.rm_base.specs.declared.Refusal.{Refusal}
-use Rattle.rm_base.specs.declared.codes.TheConstants.{OWN_FILE, UNKNOWN_DOCTOR, UNKNOWN_HOSPITAL, NOT_CONTRACT}
-use Rattle.rm_transit.specs.declared.event_file.TheConstants.{BAD_EVENT}
+use Rattle.rm_base.specs.declared.codes.TheConstants.{OWN_FILE, UNKNOWN_DOCTOR, UNKNOWN_HOSPITAL, NOT_CONTRACT, BAD_EVENT}
 use Rattle.rm_table.specs.Rows.{Row}
 use Rattle.rm_market.specs.Board.{is_empty}
 use Rattle.rm_roster.specs.Cells.{field, data_rows, header_check}

@@ -39,6 +39,10 @@ marks_of w t n = map (mark_of w t) (below n)
 
 -- ---- after events
 
+-- by any choice: these are the marks after events from the start, and whether nothing travels and nobody can send
+abbrev pub StandsAfter : (List ℕ → List ℕ) → Wishes → List Event → List Mark → Bool → Type 0
+StandsAfter chosen w es marks rests = (marks ≡ marks_of w (after_events chosen w es) (length w.listed)) × (rests ≡ all_rest w (after_events chosen w es))
+
 -- the state after these events from the start, with the best subsets of the case's board
 abbrev pub state_after : CaseData → List Event → Transit
 state_after c es = after_events (best_of (values_of (market c).board)) (wishes_of (market c)) es

@@ -11,14 +11,14 @@ ghost use Rattle.rm_transit.specs.Events.{contract_checks, event_checks, event_t
 ghost use Rattle.rm_transit.specs.Travel.{IsEventOf};
 
 use rm_base::ReadFault;
-use rm_base::codes::{NOT_CONTRACT, OWN_FILE, UNKNOWN_DOCTOR, UNKNOWN_HOSPITAL, WRONG_HEADER};
+use rm_base::codes::{
+    BAD_EVENT, NOT_CONTRACT, OWN_FILE, UNKNOWN_DOCTOR, UNKNOWN_HOSPITAL, WRONG_HEADER,
+};
 use rm_case::{Case, OwnFault};
 use rm_roster::wrong_cell;
 use rm_table::{Row, Table};
 use rm_transit_laws::Event;
 use std::alloc::Global;
-
-pub(crate) const BAD_EVENT: u8 = 68;
 
 // What happens: a doctor sends his next offer, an offer arrives, or a refusal arrives.
 #[derive(Clone, Copy)]

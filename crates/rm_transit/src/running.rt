@@ -5,8 +5,8 @@ ghost use Rattle.rm_market.specs.Board.{contract_count};
 ghost use Rattle.rm_market.specs.Laws.{AreWishes};
 ghost use Rattle.rm_market.specs.Market.{wishes_of};
 ghost use Rattle.rm_case.specs.Case.{IsCase, market};
-ghost use Rattle.rm_transit_laws.specs.Transit.{after_events, all_happen, all_rest};
-ghost use Rattle.rm_transit.specs.Running.{marks_after, marks_of, rests_after, AreMarksBelow, LeadsToPlacement};
+ghost use Rattle.rm_transit_laws.specs.Transit.{all_happen};
+ghost use Rattle.rm_transit.specs.Running.{marks_after, marks_of, rests_after, AreMarksBelow, LeadsToPlacement, StandsAfter};
 ghost use Rattle.rm_transit.specs.Travel.{transit_state, wishes, IsEventOf};
 
 use crate::NoMemory;
@@ -54,10 +54,7 @@ fn run_with<H: Holder + Drop>(
     requires wishes { AreWishes (H.count holder) (wishes owners.now listed.now) }
     requires empty { H.held holder ≡ [] }
     requires events { All (IsEventOf (wishes owners.now listed.now)) events.now }
-    ensures marks { IfOk result (λ s. s.marks.items
-        ≡ marks_of (wishes owners.now listed.now) (after_events (H.chosen holder) (wishes owners.now listed.now) events.now) (length listed.now)) }
-    ensures closed { IfOk result (λ s. s.closed
-        ≡ all_rest (wishes owners.now listed.now) (after_events (H.chosen holder) (wishes owners.now listed.now) events.now)) }
+    ensures { IfOk result (λ s. StandsAfter (H.chosen holder) (wishes owners.now listed.now) events.now s.marks.items s.closed) }
 {
     let mut transit = Transit::open(alloc, listed, owners, holder)?;
     step_all(&mut transit, events);

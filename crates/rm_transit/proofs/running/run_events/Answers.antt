@@ -23,31 +23,31 @@ pub returns-clause-marks : goal.returns-clause-marks
 returns-clause-marks c =
     IfOk-weaker c.run_with.result _ _
     (λ s is. marks_are c.args.case.now c.listed.ensures.case c.board-board.result.now _ c.owners.result.now c.listed.result.now
-    c.board-board.ensures.board c.in_ok-holder.ensures.chosen c.owners.ensures c.listed.ensures.listed c.args.events.now s.marks.items is)
-    c.run_with.ensures.marks
+    c.board-board.ensures.board c.in_ok-holder.ensures.chosen c.owners.ensures c.listed.ensures.listed c.args.events.now s.marks.items is.0)
+    c.run_with.ensures
 
 pub returns-clause-closed : goal.returns-clause-closed
 returns-clause-closed c =
     IfOk-weaker c.run_with.result _ _
     (λ s is. rests_are c.args.case.now c.listed.ensures.case c.board-board.result.now _ c.owners.result.now c.listed.result.now
-    c.board-board.ensures.board c.in_ok-holder.ensures.chosen c.owners.ensures c.listed.ensures.listed c.args.events.now s.closed is)
-    c.run_with.ensures.closed
+    c.board-board.ensures.board c.in_ok-holder.ensures.chosen c.owners.ensures c.listed.ensures.listed c.args.events.now s.closed is.1)
+    c.run_with.ensures
 
 pub returns-clause-doctors : goal.returns-clause-doctors
 returns-clause-doctors c =
     IfOk-weaker c.run_with.result _ _
     (λ s is. ap length (marks_are c.args.case.now c.listed.ensures.case c.board-board.result.now _ c.owners.result.now c.listed.result.now
-    c.board-board.ensures.board c.in_ok-holder.ensures.chosen c.owners.ensures c.listed.ensures.listed c.args.events.now s.marks.items is)
+    c.board-board.ensures.board c.in_ok-holder.ensures.chosen c.owners.ensures c.listed.ensures.listed c.args.events.now s.marks.items is.0)
     ∙ marks_long (wishes_of (market c.args.case.now)) (state_after c.args.case.now c.args.events.now) (length c.args.case.now.roster.doctors))
-    c.run_with.ensures.marks
+    c.run_with.ensures
 
 pub returns-clause-contracts : goal.returns-clause-contracts
 returns-clause-contracts c =
     IfOk-weaker c.run_with.result _ _
     (λ s is. case_marks_below c.args.case.now c.listed.ensures.case c.args.events.now s.marks.items
     (marks_are c.args.case.now c.listed.ensures.case c.board-board.result.now _ c.owners.result.now c.listed.result.now
-    c.board-board.ensures.board c.in_ok-holder.ensures.chosen c.owners.ensures c.listed.ensures.listed c.args.events.now s.marks.items is))
-    c.run_with.ensures.marks
+    c.board-board.ensures.board c.in_ok-holder.ensures.chosen c.owners.ensures c.listed.ensures.listed c.args.events.now s.marks.items is.0))
+    c.run_with.ensures
 
 pub returns-clause-leads : goal.returns-clause-leads
 returns-clause-leads c = leads c.args.case.now c.board-board.ensures.case c.args.events.now
