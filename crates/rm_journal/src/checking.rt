@@ -8,7 +8,7 @@ ghost use Rattle.rm_market.specs.Laws.{AreWishes};
 ghost use Rattle.rm_market.specs.Market.{IsPlacementOf, wishes_of};
 ghost use Rattle.rm_market.specs.declared.Outcome.TheVariants as out;
 ghost use Rattle.rm_rounds.specs.Desk.{places_after, wishes};
-ghost use Rattle.rm_case.specs.Case.{market};
+ghost use Rattle.rm_case.specs.Case.{IsCase, market};
 ghost use Rattle.rm_journal_laws.specs.Journal.{IsAccepted, Says, left_by, same_outcome};
 ghost use Rattle.rm_journal_laws.specs.declared.Check.TheVariants as checks;
 ghost use Rattle.rm_journal.specs.Doctors.{IsFirst, next_told};
@@ -35,6 +35,7 @@ pub fn verify(alloc: Global, case: &Case, entries: &[Entry]) -> Result<Check, No
         (check ≡ checks.Accepted) ↔ IsAccepted (best_of (values_of (market case.now).board)) (wishes_of (market case.now)) entries.now) }
     ensures placement { IfOk result (λ check. check ≡ checks.Accepted
         → IsPlacementOf (market case.now) (left_by (best_of (values_of (market case.now).board)) (wishes_of (market case.now)) entries.now).held) }
+    ensures case { IsCase case.now }
 {
     let board = case.board();
     let holder = FastHolder::open(alloc, board)?;

@@ -4,8 +4,9 @@ use Rattle.rm_base.specs.Checks.{first_of}
 use Rattle.rm_base.specs.Text.{Text, Files}
 use Rattle.rm_base.specs.declared.Refusal.{Refusal}
 use Rattle.rm_base.specs.declared.codes.TheConstants.{OWN_FILE}
+use Rattle.rm_market.specs.Best.{best_of, values_of}
 use Rattle.rm_market.specs.Certificate.{certificate}
-use Rattle.rm_market.specs.Market.{Best, IsStableIn, places_of, replaced, set_of_places}
+use Rattle.rm_market.specs.Market.{Best, IsStableIn, places_of, replaced, set_of_places, wishes_of}
 use Rattle.rm_market.specs.declared.Finding.{Finding}
 use Rattle.rm_outside.specs.Outside.{HasRisen, Gains, GainsPart}
 use Rattle.rm_table.specs.Rows.{Row}
@@ -13,7 +14,13 @@ use Rattle.rm_case.specs.Case.{CaseData, market_of, market}
 use Rattle.rm_case.specs.Choices.{choices_of}
 use Rattle.rm_case.specs.Own.{doctor_in, offers_of}
 use Rattle.rm_audit.specs.Placement.{placement_in}
+use Rattle.rm_journal.specs.Reading.{journal_in}
+use Rattle.rm_journal_laws.specs.Journal.{IsOwnJournal, Says}
+use Rattle.rm_journal_laws.specs.Journal as journals
+use Rattle.rm_journal_laws.specs.declared.Check.{Check}
+use Rattle.rm_journal_laws.specs.declared.Entry.{Entry}
 use Rattle.rm_laws.specs.WhatIf.{AreBothPlacements}
+use Rattle.rm_report.specs.Journal.{journal_text, verdict_text}
 use Rattle.rm_report.specs.Report.{prefecture_text}
 use Rattle.rm_report.specs.Texts.{placement_text, pair_text, check_text, certificate_text, finding_text}
 use Rattle.rm_transit_laws.specs.declared.Event.{Event}
@@ -90,6 +97,22 @@ placed_in c rows = set_of_places (market c) (placement_in c rows)
 abbrev pub IsFindingText : CaseData → List ℕ → Text → Type 0
 IsFindingText c S text = (finding : Finding) × IsFinding (market c) S finding × (text ≡ finding_text c finding)
 
+-- what is chosen of offers in a case: their best subset
+abbrev pub chosen_in : CaseData → List ℕ → List ℕ
+chosen_in c = best_of (values_of (market c).board)
+
+-- the text of the case's own journal
+abbrev pub IsJournalText : CaseData → Text → Type 0
+IsJournalText c text = (entries : List Entry) × IsOwnJournal (chosen_in c) (wishes_of (market c)) entries × (text ≡ journal_text c entries)
+
+-- the text of what is so of a journal
+abbrev pub IsVerdictText : CaseData → List Entry → Text → Type 0
+IsVerdictText c entries text = (check : Check) × Says (chosen_in c) (wishes_of (market c)) entries check × (text ≡ verdict_text c check)
+
+-- the journal is accepted
+abbrev pub IsAcceptedJournal : CaseData → List Entry → Type 0
+IsAcceptedJournal c entries = journals.IsAccepted (chosen_in c) (wishes_of (market c)) entries
+
 -- the text of where everybody stands after these events from the start. Whatever they are, the marks tell the places of the best subset of all
 -- delivered offers, and nothing that was refused stands in a stable set; and where the text says `closed`, these are the places of the placement
 abbrev pub IsTransitText : CaseData → List Event → Text → Type 0
@@ -104,6 +127,8 @@ IsCaseText kinds.Report words c rows text = IsReportText c text
 IsCaseText kinds.Choose words c rows text = IsChoiceText c (offers_of c rows) text
 IsCaseText kinds.Audit words c rows text = IsFindingText c (placed_in c rows) text
 IsCaseText kinds.WhatIf words c rows text = IsDoctorsText c (doctor_word words) (choices_of c rows) text
+IsCaseText kinds.Journal words c rows text = IsJournalText c text
+IsCaseText kinds.Verify words c rows text = IsVerdictText c (journal_in c rows) text
 IsCaseText kinds.Transit words c rows text = IsTransitText c (events_told c rows) text
 
 -- ---- of every command
@@ -135,7 +160,8 @@ pub record WrotePart (files : Option Files) (command : Option Command) (before a
 
 -- ---- what is objected to
 
--- there is nothing to object to: the placement that `audit` is given is stable. The other commands judge nothing
+-- there is nothing to object to: the placement that `audit` is given is stable, and the journal that `verify` is given is accepted. The other
+-- commands judge nothing
 abbrev pub IsRight : Kind → CaseData → List Row → Type 0
 IsRight kinds.Place c rows = Unit {0}
 IsRight kinds.Check c rows = Unit {0}
@@ -143,6 +169,8 @@ IsRight kinds.Report c rows = Unit {0}
 IsRight kinds.Choose c rows = Unit {0}
 IsRight kinds.Audit c rows = IsStableIn (market c) (placed_in c rows)
 IsRight kinds.WhatIf c rows = Unit {0}
+IsRight kinds.Journal c rows = Unit {0}
+IsRight kinds.Verify c rows = IsAcceptedJournal c (journal_in c rows)
 IsRight kinds.Transit c rows = Unit {0}
 
 -- where the text was written, the status is 0 exactly where there is nothing to object to, and 1 exactly where there is something; of what no

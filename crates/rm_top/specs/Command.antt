@@ -14,12 +14,13 @@ use Rattle.rm_case.specs.Choices.{choice_table_checks}
 use Rattle.rm_case.specs.Own.{doctor_in, offer_table_checks}
 use Rattle.rm_audit.specs.Placement.{placement_checks}
 use Rattle.rm_transit.specs.Events.{event_table_checks}
+use Rattle.rm_journal.specs.Reading.{journal_checks}
 use Rattle.rm_top.specs.declared.command.Kind.{Kind}
 use Rattle.rm_top.specs.declared.command.Kind.TheVariants as kinds
 use Rattle.rm_top.specs.declared.command.TheConstants.{DOCTOR_WORD, WORDS}
 
 abbrev pub usage_text : Text
-usage_text = codes "usage: rm_match place F | check F | report F | choose F OFFERS | audit F PLACEMENT | whatif F DOCTOR LIST | transit F EVENTS\n"
+usage_text = codes "usage: rm_match place F | check F | report F | choose F OFFERS | audit F PLACEMENT | whatif F DOCTOR LIST | journal F | verify F JOURNAL | transit F EVENTS\n"
 
 -- what a first word asks for, with so many words in all
 abbrev pub kind_of : Text → ℕ → Option Kind
@@ -30,6 +31,8 @@ kind_of word count =
     else if (count == 3) && bytes_eq word (codes "choose") then Some kinds.Choose
     else if (count == 3) && bytes_eq word (codes "audit") then Some kinds.Audit
     else if (count == 4) && bytes_eq word (codes "whatif") then Some kinds.WhatIf
+    else if (count == 2) && bytes_eq word (codes "journal") then Some kinds.Journal
+    else if (count == 3) && bytes_eq word (codes "verify") then Some kinds.Verify
     else if (count == 3) && bytes_eq word (codes "transit") then Some kinds.Transit
     else None
 
@@ -41,6 +44,8 @@ own_at kinds.Report = None
 own_at kinds.Choose = Some 2
 own_at kinds.Audit = Some 2
 own_at kinds.WhatIf = Some 3
+own_at kinds.Journal = None
+own_at kinds.Verify = Some 2
 own_at kinds.Transit = Some 2
 
 -- a word, counted from 0; the empty text past the last
@@ -59,6 +64,8 @@ word_checks kinds.Report c words = []
 word_checks kinds.Choose c words = []
 word_checks kinds.Audit c words = []
 word_checks kinds.WhatIf c words = check (is_none (doctor_in c (doctor_word words))) (refuse UNKNOWN_DOCTOR WORDS DOCTOR_WORD 0) ∷ []
+word_checks kinds.Journal c words = []
+word_checks kinds.Verify c words = []
 word_checks kinds.Transit c words = []
 
 -- the checks of the rows of a command's own file; a command without one has none
@@ -69,6 +76,8 @@ rows_checks kinds.Report c rows = []
 rows_checks kinds.Choose c rows = offer_table_checks c rows
 rows_checks kinds.Audit c rows = placement_checks c rows
 rows_checks kinds.WhatIf c rows = choice_table_checks c rows
+rows_checks kinds.Journal c rows = []
+rows_checks kinds.Verify c rows = journal_checks c rows
 rows_checks kinds.Transit c rows = event_table_checks c rows
 
 -- ---- of every command

@@ -11,7 +11,8 @@ use Rattle.rm_case.specs.Case.{CaseData, market}
 use Rattle.rm_case.specs.Loading.{LoadsData, HasFailedAt}
 use Rattle.rm_case.specs.declared.fault.LoadFault.{LoadFault}
 use Rattle.rm_case.specs.declared.fault.LoadFault.TheVariants as fault
-use Rattle.rm_top.specs.Answers.{FailedOn, IsCaseText, IsFindingText, IsRight, OfGiven}
+use Rattle.rm_journal_laws.specs.declared.Entry.{Entry}
+use Rattle.rm_top.specs.Answers.{FailedOn, IsAcceptedJournal, IsCaseText, IsFindingText, IsRight, IsVerdictText, OfGiven}
 use Rattle.rm_top.specs.Command.{Command, own_checks, own_file_in, own_refusal, own_rows, refusal_of, rows_checks, word_checks}
 use Rattle.rm_top.specs.Texts.{refusal_text, read_fault_text}
 use Rattle.rm_top.specs.declared.ending.Ending.{Ending}
@@ -43,6 +44,10 @@ IsTold command c rows told = IsCaseText command.kind command.words c rows told.t
 -- the same of the finding on a set of placed contracts
 abbrev pub IsFindingTold : CaseData → List ℕ → Told → Type 0
 IsFindingTold c S told = IsFindingText c S told.text.items × Judges told.objects (IsStableIn (market c) S)
+
+-- and of what is so of a journal
+abbrev pub IsVerdictTold : CaseData → List Entry → Told → Type 0
+IsVerdictTold c entries told = IsVerdictText c entries told.text.items × Judges told.objects (IsAcceptedJournal c entries)
 
 -- nothing of the rows is refused, and this is told
 abbrev pub HasCaseText : Command → CaseData → List Row → Told → Type 0

@@ -7,7 +7,7 @@ use std::marker::Model;
 
 /// The usage line.
 pub const USAGE: &str =
-    "usage: rm_match place F | check F | report F | choose F OFFERS | audit F PLACEMENT | whatif F DOCTOR LIST | transit F EVENTS\n";
+    "usage: rm_match place F | check F | report F | choose F OFFERS | audit F PLACEMENT | whatif F DOCTOR LIST | journal F | verify F JOURNAL | transit F EVENTS\n";
 
 /// The number that a refusal has in place of a file's where it speaks of a word.
 pub const WORDS: u8 = 0;
@@ -30,6 +30,10 @@ pub enum Kind {
     Audit,
     /// Place the doctors, once as they are and once with another list of one of them.
     WhatIf,
+    /// Write the journal of offers.
+    Journal,
+    /// Say what is so of the journal in a file.
+    Verify,
     /// Tell where everybody stands after the events in a file.
     Transit,
 }
@@ -45,6 +49,8 @@ fn kind_of(word: &str, count: usize) -> Option<Kind>
         3 if word == "choose" => Some(Kind::Choose),
         3 if word == "audit" => Some(Kind::Audit),
         4 if word == "whatif" => Some(Kind::WhatIf),
+        2 if word == "journal" => Some(Kind::Journal),
+        3 if word == "verify" => Some(Kind::Verify),
         3 if word == "transit" => Some(Kind::Transit),
         _ => None,
     }
@@ -59,6 +65,7 @@ impl Kind {
             Kind::Choose => Some(2),
             Kind::Audit => Some(2),
             Kind::WhatIf => Some(3),
+            Kind::Verify => Some(2),
             Kind::Transit => Some(2),
             _ => None,
         }

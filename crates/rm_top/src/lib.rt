@@ -12,6 +12,7 @@ mod auditing;
 mod choosing;
 mod command;
 mod ending;
+mod journals;
 mod output;
 mod prefectures;
 mod replacing;
@@ -80,9 +81,10 @@ fn perform<S: Shelf, O: Sink>(alloc: Global, words: &[String], shelf: &mut S, ou
 }
 
 /// Does all that the program does with these words, which stand after its name, and answers its status: 0 where the text was
-/// written, 1 where it was written and objects to something, as the finding of `audit` does on a placement that isn't stable, 2 where
-/// the words spell no command, 3 where the folder, a word or the command's own file is refused, 4 where the shelf failed, 5 where
-/// `out` failed, and 6 for want of memory. What `err` gains says which, and nothing with 0 and 1.
+/// written, 1 where it was written and objects to something, as the finding of `audit` does on a placement that isn't stable and the
+/// verdict of `verify` on a journal that isn't accepted, 2 where the words spell no command, 3 where the folder, a word or the
+/// command's own file is refused, 4 where the shelf failed, 5 where `out` failed, and 6 for want of memory. What `err` gains says
+/// which, and nothing with 0 and 1.
 pub fn run<S: Shelf, O: Sink, E: Sink>(
     alloc: Global,
     words: &[String],

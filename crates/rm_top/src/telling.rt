@@ -11,6 +11,7 @@ use crate::NoMemory;
 use crate::auditing::audit_told;
 use crate::choosing::choose_text;
 use crate::command::{Command, DOCTOR_WORD, Kind, WORDS};
+use crate::journals::{own_journal_text, verify_told};
 use crate::prefectures::report_text;
 use crate::replacing::whatif_text;
 use crate::travelling::travel_text;
@@ -63,6 +64,8 @@ fn text_on(alloc: Global, command: &Command<'_>, case: &Case, own: &Table) -> Re
         Kind::Choose => Ok(choose_text(alloc, case, own)?),
         Kind::Audit => return audit_told(alloc, case, own),
         Kind::WhatIf => Ok(whatif_text(alloc, case, command.doctor(), own)?),
+        Kind::Journal => own_journal_text(alloc, case),
+        Kind::Verify => return verify_told(alloc, case, own),
         Kind::Transit => Ok(travel_text(alloc, case, own)?),
     };
     match made {

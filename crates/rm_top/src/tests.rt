@@ -107,6 +107,30 @@ const REPLACED: Row<'static> = Row {
     ..FLEXIBLE
 };
 
+const JOURNAL: Row<'static> = Row {
+    name: "each offer of the least doctor who can offer, with its answer",
+    words: &["journal", "F"],
+    out: b"doctor,hospital,answer,out_doctor,out_hospital\nA,H2,kept,,\nB,H1,swapped,A,H2\nA,H1,swapped,B,H1\n",
+    ..FLEXIBLE
+};
+
+const VERIFIED: Row<'static> = Row {
+    name: "the own journal is accepted",
+    words: &["verify", "F", "O"],
+    own: Some(JOURNAL.out),
+    fetches: &[6],
+    out: b"accepted\n",
+    ..FLEXIBLE
+};
+
+const OPEN: Row<'static> = Row {
+    name: "a journal without its last row",
+    own: Some(b"doctor,hospital,answer,out_doctor,out_hospital\nA,H2,kept,,\nB,H1,swapped,A,H2\n"),
+    status: 1,
+    out: b"open,A\n",
+    ..VERIFIED
+};
+
 const REFUSED: Row<'static> = Row {
     name: "a choice of no hospital",
     doctors: b"doctor,choices\nA,H1,H9\n",
@@ -133,12 +157,23 @@ const REFUSED_PLACEMENT: Row<'static> = Row {
     ..REFUSED_LIST
 };
 
+const REFUSED_JOURNAL: Row<'static> = Row {
+    name: "the journal to verify is missing",
+    own: None,
+    puts: &[1],
+    reports: &[2],
+    status: 3,
+    out: b"",
+    err: b"refused 10 5 0 0\n",
+    ..VERIFIED
+};
+
 const NO_COMMAND: Row<'static> = Row {
     name: "no words",
     words: &[],
     fetches: &[1],
     status: 2,
-    err: b"usage: rm_match place F | check F | report F | choose F OFFERS | audit F PLACEMENT | whatif F DOCTOR LIST | transit F EVENTS\n",
+    err: b"usage: rm_match place F | check F | report F | choose F OFFERS | audit F PLACEMENT | whatif F DOCTOR LIST | journal F | verify F JOURNAL | transit F EVENTS\n",
     ..REFUSED
 };
 
@@ -168,6 +203,13 @@ const UNREAD_LIST: Row<'static> = Row {
     ..UNREAD_AUDIT
 };
 
+const UNREAD_JOURNAL: Row<'static> = Row {
+    name: "the first fetch for a journal fails",
+    words: &["verify", "F", "O"],
+    own: VERIFIED.own,
+    ..UNREAD_AUDIT
+};
+
 const UNWRITTEN: Row<'static> = Row {
     name: "the put fails",
     puts: &[1, 2],
@@ -178,7 +220,7 @@ const UNWRITTEN: Row<'static> = Row {
     ..PLACED
 };
 
-static WRITTEN_ROWS: [Row<'static>; 19] = [
+static WRITTEN_ROWS: [Row<'static>; 25] = [
     PLACED,
     Row {
         name: "no doctors and no ranks",
@@ -272,9 +314,31 @@ static WRITTEN_ROWS: [Row<'static>; 19] = [
         own: Some(b"hospital\n"),
         ..REPLACED
     },
+    JOURNAL,
+    VERIFIED,
+    Row {
+        name: "a journal in another order is accepted",
+        own: Some(
+            b"doctor,hospital,answer,out_doctor,out_hospital\nB,H1,kept,,\nA,H2,refused,,\nA,H1,swapped,B,H1\n",
+        ),
+        ..VERIFIED
+    },
+    OPEN,
+    Row {
+        name: "an answer that isn't so",
+        own: Some(b"doctor,hospital,answer,out_doctor,out_hospital\nA,H2,kept,,\nB,H1,kept,,\n"),
+        out: b"wrong-answer,2\n",
+        ..OPEN
+    },
+    Row {
+        name: "an offer that isn't next",
+        own: Some(b"doctor,hospital,answer,out_doctor,out_hospital\nA,H1,kept,,\n"),
+        out: b"not-next,1\n",
+        ..OPEN
+    },
 ];
 
-static REFUSED_ROWS: [Row<'static>; 27] = [
+static REFUSED_ROWS: [Row<'static>; 40] = [
     REFUSED,
     Row {
         name: "a row that isn't text",
@@ -420,10 +484,82 @@ static REFUSED_ROWS: [Row<'static>; 27] = [
         words: &["audit", "F", "O"],
         ..REFUSED
     },
+    REFUSED_JOURNAL,
+    Row {
+        name: "a journal that isn't text",
+        own: Some(b"doctor,hospital,answer,out_doctor,out_hospital\nA,H2,\xff,,\n"),
+        err: b"refused 12 5 1 0\n",
+        ..REFUSED_JOURNAL
+    },
+    Row {
+        name: "a journal with another header",
+        own: Some(b"doctor,hospital,answer\nA,H2,kept\n"),
+        err: b"refused 13 5 0 4\n",
+        ..REFUSED_JOURNAL
+    },
+    Row {
+        name: "an offer of no doctor in a journal",
+        own: Some(b"doctor,hospital,answer,out_doctor,out_hospital\nA,H2,kept,,\nZ,H2,yes,,\n"),
+        err: b"refused 60 5 2 1\n",
+        ..REFUSED_JOURNAL
+    },
+    Row {
+        name: "an offer to no hospital",
+        own: Some(b"doctor,hospital,answer,out_doctor,out_hospital\nA,H9,yes,,\n"),
+        err: b"refused 61 5 1 2\n",
+        ..REFUSED_JOURNAL
+    },
+    Row {
+        name: "an offer to a hospital that doesn't rank the doctor",
+        own: Some(b"doctor,hospital,answer,out_doctor,out_hospital\nB,H2,yes,,\n"),
+        err: b"refused 65 5 1 2\n",
+        ..REFUSED_JOURNAL
+    },
+    Row {
+        name: "a text that is no answer",
+        own: Some(b"doctor,hospital,answer,out_doctor,out_hospital\nA,H2,yes,,\n"),
+        err: b"refused 67 5 1 3\n",
+        ..REFUSED_JOURNAL
+    },
+    Row {
+        name: "no doctor is put out",
+        own: Some(b"doctor,hospital,answer,out_doctor,out_hospital\nA,H2,swapped,,\n"),
+        err: b"refused 60 5 1 4\n",
+        ..REFUSED_JOURNAL
+    },
+    Row {
+        name: "a doctor is put out of no hospital",
+        own: Some(b"doctor,hospital,answer,out_doctor,out_hospital\nA,H2,swapped,B,\n"),
+        err: b"refused 61 5 1 5\n",
+        ..REFUSED_JOURNAL
+    },
+    Row {
+        name: "a doctor is put out of a hospital that doesn't rank him",
+        own: Some(b"doctor,hospital,answer,out_doctor,out_hospital\nA,H2,swapped,B,H2\n"),
+        err: b"refused 65 5 1 5\n",
+        ..REFUSED_JOURNAL
+    },
+    Row {
+        name: "a contract is kept and a doctor put out",
+        own: Some(b"doctor,hospital,answer,out_doctor,out_hospital\nA,H2,kept,B,H1\n"),
+        err: b"refused 67 5 1 4\n",
+        ..REFUSED_JOURNAL
+    },
+    Row {
+        name: "a contract is refused and a hospital stands in the last field",
+        own: Some(b"doctor,hospital,answer,out_doctor,out_hospital\nA,H2,refused,,H1\n"),
+        err: b"refused 67 5 1 5\n",
+        ..REFUSED_JOURNAL
+    },
+    Row {
+        name: "where the folder is refused, its journal is not fetched",
+        words: &["verify", "F", "O"],
+        ..REFUSED
+    },
     NO_COMMAND,
 ];
 
-static FAILED_ROWS: [Row<'static>; 14] = [
+static FAILED_ROWS: [Row<'static>; 18] = [
     Row {
         name: "no file of offers",
         words: &["choose", "F"],
@@ -447,6 +583,16 @@ static FAILED_ROWS: [Row<'static>; 14] = [
     Row {
         name: "no file with a placement",
         words: &["audit", "F"],
+        ..NO_COMMAND
+    },
+    Row {
+        name: "no file with a journal",
+        words: &["verify", "F"],
+        ..NO_COMMAND
+    },
+    Row {
+        name: "a file with the own journal",
+        words: &["journal", "F", "O"],
         ..NO_COMMAND
     },
     UNREAD,
@@ -500,6 +646,24 @@ static FAILED_ROWS: [Row<'static>; 14] = [
         err: b"write fault\n",
         ..AUDITED
     },
+    Row {
+        name: "the put of a journal fails",
+        puts: &[1, 2],
+        reports: &[2],
+        status: 5,
+        out: b"",
+        err: b"write fault\n",
+        ..JOURNAL
+    },
+    Row {
+        name: "the put of a verdict fails",
+        puts: &[1, 2],
+        reports: &[2],
+        status: 5,
+        out: b"",
+        err: b"write fault\n",
+        ..OPEN
+    },
     UNWRITTEN,
     Row {
         name: "neither put is taken",
@@ -509,8 +673,8 @@ static FAILED_ROWS: [Row<'static>; 14] = [
     },
 ];
 
-// Audits, and calls for another list, whose fetches fail one after the other.
-static UNREAD_ROWS: [Row<'static>; 9] = [
+// Audits, calls for another list and of journals, whose fetches fail one after the other.
+static UNREAD_ROWS: [Row<'static>; 15] = [
     UNREAD_AUDIT,
     Row {
         name: "the second fetch of an audit fails",
@@ -554,6 +718,39 @@ static UNREAD_ROWS: [Row<'static>; 9] = [
         fetches: &[4, 5],
         err: b"read fault 4\n",
         ..UNREAD_LIST
+    },
+    UNREAD_JOURNAL,
+    Row {
+        name: "the second fetch for a journal fails",
+        fetches: &[2, 3],
+        err: b"read fault 2\n",
+        ..UNREAD_JOURNAL
+    },
+    Row {
+        name: "the third fetch for a journal fails",
+        fetches: &[3, 4],
+        err: b"read fault 3\n",
+        ..UNREAD_JOURNAL
+    },
+    Row {
+        name: "the fourth fetch for a journal fails",
+        fetches: &[4, 5],
+        err: b"read fault 4\n",
+        ..UNREAD_JOURNAL
+    },
+    Row {
+        name: "the fetch of the journal to verify fails",
+        fetches: &[5, 6],
+        err: b"read fault 5\n",
+        ..UNREAD_JOURNAL
+    },
+    Row {
+        name: "the fourth fetch for the own journal fails",
+        words: &["journal", "F"],
+        own: None,
+        fetches: &[4, 5],
+        err: b"read fault 4\n",
+        ..UNREAD_JOURNAL
     },
 ];
 
@@ -737,7 +934,7 @@ static FAILED_TRAVEL_ROWS: [Row<'static>; 7] = [
 ];
 
 // Calls whose output has room for so many bytes and no more.
-static TORN_ROWS: [(Row<'static>, usize); 9] = [
+static TORN_ROWS: [(Row<'static>, usize); 11] = [
     (PLACED, 0),
     (PLACED, 10),
     (STEPS, 10),
@@ -747,6 +944,8 @@ static TORN_ROWS: [(Row<'static>, usize); 9] = [
     (REPLACED, 10),
     (TRAVELLED, 0),
     (TRAVELLED, 30),
+    (JOURNAL, 50),
+    (OPEN, 5),
 ];
 
 // The words of a row.

@@ -5,7 +5,7 @@ use Rattle.rm_case.specs.Own.{offers_of}
 use Rattle.rm_transit.specs.Events.{events_told}
 use Rattle.rm_top.specs.declared.command.Kind.TheVariants as kinds
 use Rattle.rm_top.proofs.Answering.{of_same, unopposed}
-use Rattle.rm_top.proofs.telling.text_on.Goals.{in-Place, in-Check, in-Report, in-Choose+in_ok-choose_text-in-Choose, in-WhatIf+in_ok-whatif_text-in-WhatIf, in-Transit+in_ok-travel_text-in-Transit}
+use Rattle.rm_top.proofs.telling.text_on.Goals.{in-Place, in-Check, in-Report, in-Choose+in_ok-choose_text-in-Choose, in-Journal, in-WhatIf+in_ok-whatif_text-in-WhatIf, in-Transit+in_ok-travel_text-in-Transit}
 use Rattle.rm_top.proofs.telling.text_on.Goals as goal
 
 pub returns-in-Ok-clause-told : goal.returns-in-Ok-clause-told
@@ -30,4 +30,5 @@ returns-in-Ok-clause-told c =
           let told = w.in_ok-travel_text-in-Transit.ensures.text in
           unopposed command case rows kinds.Transit text (sym c.kind.ensures ∙ w.in-Transit.is) told.0
           (of_same (λ t. IsTransitText case (events_told case rows) t.items) w.made-is c.in-Ok.is told) tt
+      | in-Journal w ↦ unopposed command case rows kinds.Journal text (sym c.kind.ensures ∙ w.in-Journal.is) refl (rw (sym w.made-is ∙ c.in-Ok.is) at w.own_journal_text-made.ensures) tt
     ]
