@@ -107,17 +107,20 @@ const REPLACED: Row<'static> = Row {
     ..FLEXIBLE
 };
 
+const OWN_JOURNAL: &[u8] =
+    b"doctor,hospital,answer,out_doctor,out_hospital\nA,H2,kept,,\nB,H1,swapped,A,H2\nA,H1,swapped,B,H1\n";
+
 const JOURNAL: Row<'static> = Row {
     name: "each offer of the least doctor who can offer, with its answer",
     words: &["journal", "F"],
-    out: b"doctor,hospital,answer,out_doctor,out_hospital\nA,H2,kept,,\nB,H1,swapped,A,H2\nA,H1,swapped,B,H1\n",
+    out: OWN_JOURNAL,
     ..FLEXIBLE
 };
 
 const VERIFIED: Row<'static> = Row {
     name: "the own journal is accepted",
     words: &["verify", "F", "O"],
-    own: Some(JOURNAL.out),
+    own: Some(OWN_JOURNAL),
     fetches: &[6],
     out: b"accepted\n",
     ..FLEXIBLE
@@ -206,7 +209,7 @@ const UNREAD_LIST: Row<'static> = Row {
 const UNREAD_JOURNAL: Row<'static> = Row {
     name: "the first fetch for a journal fails",
     words: &["verify", "F", "O"],
-    own: VERIFIED.own,
+    own: Some(OWN_JOURNAL),
     ..UNREAD_AUDIT
 };
 
@@ -338,7 +341,7 @@ static WRITTEN_ROWS: [Row<'static>; 25] = [
     },
 ];
 
-static REFUSED_ROWS: [Row<'static>; 40] = [
+static REFUSED_ROWS: [Row<'static>; 27] = [
     REFUSED,
     Row {
         name: "a row that isn't text",
@@ -484,6 +487,11 @@ static REFUSED_ROWS: [Row<'static>; 40] = [
         words: &["audit", "F", "O"],
         ..REFUSED
     },
+    NO_COMMAND,
+];
+
+// Journals that are refused.
+static REFUSED_JOURNALS: [Row<'static>; 13] = [
     REFUSED_JOURNAL,
     Row {
         name: "a journal that isn't text",
@@ -556,7 +564,6 @@ static REFUSED_ROWS: [Row<'static>; 40] = [
         words: &["verify", "F", "O"],
         ..REFUSED
     },
-    NO_COMMAND,
 ];
 
 static FAILED_ROWS: [Row<'static>; 18] = [
@@ -1026,6 +1033,7 @@ fn tells_where_everybody_stands(rt: HostRuntime) -> Result<(), Fail> {
 #[test]
 fn refuses_files(rt: HostRuntime) -> Result<(), Fail> {
     assert_eq!(rt; first_wrong(rt.alloc(), &REFUSED_ROWS)?, None);
+    assert_eq!(rt; first_wrong(rt.alloc(), &REFUSED_JOURNALS)?, None);
     Ok(())
 }
 
