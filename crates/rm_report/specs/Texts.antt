@@ -1,5 +1,5 @@
 -- The texts that the commands write about a case.
-use Rattle.std.specs.Prelude.{◌≡◌, ◌==◌, ℕ, ◌<◌, Bool, true, false, List, [], ◌∷◌, ◌++◌, map, flat_map, length, sum_by, codes, decimal, get_or, Option, Some, None, All, IfSome, if◌then◌else◌}
+use Rattle.std.specs.Prelude.{◌≡◌, ℕ, ◌<◌, Bool, List, [], ◌∷◌, ◌++◌, map, flat_map, length, sum_by, codes, decimal, get_or, Option, None, All, IfSome, if◌then◌else◌}
 use Rattle.std.specs.List.{concat}
 use Rattle.std.specs.Option.{option_map_or}
 use Rattle.std.specs.Fmt.{signed_decimal}
@@ -72,33 +72,6 @@ pair_rows c declared replaced n = pair_header ∷ map (pair_row c declared repla
 
 unfoldable pub pair_text : CaseData → PlacesData → PlacesData → Text
 pair_text c declared replaced = csv_text (pair_rows c declared replaced (length c.roster.doctors))
-
--- ---- relax: a row per doctor, with his place before and after
-
--- two places are one, or both are none
-abbrev pub is_same : Option ℕ → Option ℕ → Bool
-is_same None None = true
-is_same (Some g) (Some h) = g == h
-is_same None (Some h) = false
-is_same (Some g) None = false
-
--- no doctor prefers his former place, so another one is better
-abbrev pub change_word : Option ℕ → Option ℕ → Text
-change_word before after = if is_same before after then codes "same" else codes "better"
-
-abbrev pub relax_header : List Text
-relax_header = codes "doctor" ∷ codes "before" ∷ codes "after" ∷ codes "change" ∷ []
-
-abbrev pub relax_row : CaseData → PlacesData → PlacesData → ℕ → List Text
-relax_row c before after d =
-    doctor_name c d ∷ place_name c before d ∷ place_name c after d ∷ change_word (get_or before d None) (get_or after d None) ∷ []
-
--- the header, and the rows of the first n doctors
-abbrev pub relax_rows : CaseData → PlacesData → PlacesData → ℕ → List (List Text)
-relax_rows c before after n = relax_header ∷ map (relax_row c before after) (below n)
-
-unfoldable pub relax_text : CaseData → PlacesData → PlacesData → Text
-relax_text c before after = csv_text (relax_rows c before after (length c.roster.doctors))
 
 -- ---- check: the counts of the market
 

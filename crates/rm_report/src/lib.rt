@@ -8,7 +8,6 @@ mod finding;
 mod journal;
 mod pair;
 mod placement;
-mod relax;
 mod report;
 mod writing;
 
@@ -18,7 +17,6 @@ pub use finding::finding_text;
 pub use journal::{journal_text, verdict_text};
 pub use pair::pair_text;
 pub use placement::placement_text;
-pub use relax::relax_text;
 pub use report::prefecture_text;
 pub use rm_base::NoMemory;
 pub use writing::{close, open_writer, write_row};
